@@ -1,0 +1,14 @@
+pub mod Sums
+pub mod Balance
+pub mod Shape
+pub mod Taken
+pub mod Unique
+pub mod Completion
+pub mod Made
+pub mod Settling
+pub mod Computes
+pub mod Flows
+pub mod FeedForward
+pub mod Start
+pub mod InRun
+pub mod ReadBack

@@ -1,0 +1,31 @@
+-- The network of the minimum of two variables, written out.
+use Rattle.std.specs.Prelude.{ℕ, [], ◌∷◌, None}
+use Rattle.crn_net.specs.Network.{Network, Part, Reaction, Dual, Pair}
+
+-- 1 of a species
+abbrev pub one : ℕ → Part
+one s = record { species = s; count = 1 }
+
+-- a reaction that takes 1 of a and gives 1 of b
+abbrev pub into : ℕ → ℕ → Reaction
+into a b = record { takes = one a ∷ []; gives = one b ∷ [] }
+
+-- species 1 to 4 are the inputs, 5 to 8 their copies, 9 to 12 the two variables, and 15 and 16 the output.
+-- 13 gets x1 plus with x2 minus, 14 gets x2 plus with x1 minus, and the last reaction takes the least of both
+abbrev pub minimum : Network
+minimum = record {
+  rails = Dual;
+  species = 16;
+  reactions =
+      into 1 5 ∷ into 2 6 ∷ into 3 7 ∷ into 4 8
+      ∷ into 5 9 ∷ into 6 10 ∷ into 7 11 ∷ into 8 12
+      ∷ into 9 13
+      ∷ record { takes = one 12 ∷ []; gives = one 13 ∷ one 16 ∷ [] }
+      ∷ into 11 14
+      ∷ record { takes = one 10 ∷ []; gives = one 14 ∷ one 16 ∷ [] }
+      ∷ record { takes = one 13 ∷ one 14 ∷ []; gives = one 15 ∷ [] }
+      ∷ [];
+  inputs = Pair 1 2 ∷ Pair 3 4 ∷ [];
+  output = Pair 15 16;
+  context = None;
+}

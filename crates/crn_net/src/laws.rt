@@ -1,0 +1,47 @@
+//! What holds of every network. Each function here does nothing: its contract is a theorem about the definitions of `specs/Network.antt`, proved with the crate.
+ghost use Rattle.std.specs.Prelude.{◌≡◌, ◌++◌, ◌≤◌, ℕ, List, length};
+ghost use Rattle.crn_fraction.specs.Rational.{ℚ};
+ghost use Rattle.crn_net.specs.Network.{Network, Reaction, Flow, AreReactions, IsNetwork, IsState, IsNotNegative, IsFeedForward, AreFlows, AreNotNegative, Run, StablyComputes, amount, after, after_all, start, value_at, greatest_flux};
+ghost use Rattle.crn_net.specs.Totals.{Leads, total, IsGreatest, IsComplete, IsConfluent, FirstLack, AreUntaken, made_by, made_in, added, change};
+ghost use Rattle.crn_net.specs.Reactions.{FeedsForward, given_all};
+
+/// Kept totals: of each species, what is there after segments and what they took is what was there before and what they gave.
+pub fn kept_totals()
+    ensures { (net : Network) (us : List (List Flow)) (c : List ℚ) → Leads net c (total us) (after_all net c us) }
+{}
+
+/// The amount after a segment is the amount before and the product of each of its flows in turn.
+pub fn flows_in_turn()
+    ensures { (net : Network) (c : List ℚ) (u : List Flow) (s : ℕ) → AreFlows (length net.reactions) u → 1 ≤ s → s ≤ net.species → amount (after net c u) s ≡ added (amount c s) (change net s) u }
+{}
+
+/// The least quotient of amount and count is the greatest flux for which each reactant is enough.
+pub fn greatest_fluxes()
+    ensures { (net : Network) → AreReactions net → (r : ℕ) → 1 ≤ r → r ≤ length net.reactions → (c : List ℚ) → IsGreatest net r c (greatest_flux net r (amount c)) }
+{}
+
+/// Reactions that feed forward along their list make a feed-forward network.
+pub fn lists_feed_forward()
+    ensures { (net : Network) → FeedsForward net.reactions → IsFeedForward net }
+{}
+
+/// In a feed-forward network the completion is a run, after which each reaction lacks a reactant.
+pub fn completions()
+    ensures { (net : Network) → IsNetwork net → IsFeedForward net → (a : List ℚ) → IsState net a → IsComplete net a }
+{}
+
+/// Confluence: from each state of a feed-forward network, every run ends as the completion does once it is completed itself.
+pub fn confluence()
+    ensures { (net : Network) → IsNetwork net → IsFeedForward net → (a : List ℚ) → IsState net a → IsConfluent net a }
+{}
+
+/// A feed-forward network stably computes what its reactions make, one after another, of the start.
+pub fn settled_values()
+    ensures { (net : Network) → IsNetwork net → IsFeedForward net → AreUntaken net net.output → (xs : List ℚ) → AreNotNegative xs → StablyComputes net xs (value_at net.output (made_by net.reactions (amount (start net xs)))) }
+{}
+
+/// In every run that leaves the first reactions without a reactant, these have made of a species what they make one after another,
+/// where the later reactions do not give it.
+pub fn made_in_runs()
+    ensures { (net : Network) → AreReactions net → IsFeedForward net → (rs qs : List Reaction) → net.reactions ≡ rs ++ qs → (a : List ℚ) → IsNotNegative a → (us : List (List Flow)) (c : List ℚ) → Run net a us c → FirstLack net (length rs) c → (s : ℕ) → 1 ≤ s → s ≤ net.species → given_all qs s ≡ 0 → made_in net us c s ≡ made_by rs (amount a) s }
+{}

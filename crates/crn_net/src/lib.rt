@@ -1,0 +1,162 @@
+//! Chemical reaction networks over nonnegative rational amounts, for computing with rate-independent reactions.
+//!
+//! `Parts` says what a network is made of, and `Network::make` answers a valid `Network` or the first fault of the parts. What a network does (states,
+//! segments, runs, completion, stable computation) is defined in `specs/Network.antt`, and `laws` has what holds of every network.
+#![tactic(auto)]
+
+ghost use Rattle.std.specs.Prelude.{◌≡◌, ◌≤◌, length};
+ghost use Rattle.crn_net.specs.Network.{IsNetwork, IsReaction, numbered};
+ghost use Rattle.crn_net.specs.Views.{reaction_of};
+ghost use Rattle.crn_net.specs.Limits.{IsWithinLimits};
+
+use crn_fraction::Frac;
+use std::alloc::Global;
+use std::marker::Model;
+use thiserror::Error;
+
+pub mod laws;
+
+/// Whether a number is the difference of the amounts of two species, or the amount of one.
+#[derive(Clone, Copy, Debug, PartialEq, Eq)]
+pub enum Rails {
+    Dual,
+    Direct,
+}
+
+/// An input or an output: the species plus and minus of a dual network, or the one species of a direct network. Species are numbered from 1.
+#[derive(Clone, Copy, Debug, PartialEq, Eq)]
+pub enum Ends {
+    Pair(u32, u32),
+    One(u32),
+}
+
+/// A reaction, numbered from 1, that happens by this much.
+#[derive(Clone, Copy, Debug, PartialEq, Eq)]
+pub struct Flow {
+    pub reaction: u64,
+    pub flux: Frac,
+}
+
+/// So many of a species, on one side of a reaction.
+#[derive(Clone, Copy, Debug, PartialEq, Eq)]
+pub struct Part {
+    pub species: u32,
+    pub count: i64,
+}
+
+/// What a reaction takes and what it gives. In a valid network each side ascends strictly by species, and something is taken.
+#[derive(Debug, Drop)]
+pub struct Reaction {
+    pub takes: Vec<Part>,
+    pub gives: Vec<Part>,
+}
+
+/// What a network is made of, valid or not. `species` is the number of species. The context species, where there is one, begins with the amount 1,
+/// so that constants can be made of it.
+#[derive(Debug, Drop)]
+pub struct Parts {
+    pub rails: Rails,
+    pub species: u32,
+    pub reactions: Vec<Reaction>,
+    pub inputs: Vec<Ends>,
+    pub output: Ends,
+    pub context: Option<u32>,
+}
+
+/// Why parts make no network. An `index` counts from 1.
+#[derive(Clone, Copy, Debug, PartialEq, Eq, Error)]
+pub enum NetworkError {
+    #[error("{count} species, and not 1 to 65536")]
+    Species { count: u32 },
+    #[error("{count} reactions, and at most 65536 are allowed")]
+    Reactions { count: usize },
+    #[error("{count} inputs, and not 1 to 8")]
+    Inputs { count: usize },
+    #[error("input {index} is of the wrong sort, out of range, or names a species again")]
+    Input { index: usize },
+    #[error("the output is of the wrong sort, out of range, or names a species twice")]
+    Output,
+    #[error("the context is out of range, or the species of an input")]
+    Context,
+    #[error("reaction {index} takes nothing, or has a side that is not well formed")]
+    Reaction { index: usize },
+    #[error("out of memory")]
+    Memory,
+}
+
+/// A valid network.
+#[derive(Debug, Drop)]
+pub struct Network {
+    parts: Parts,
+}
+
+impl Model for Network {
+    ghost use Rattle.crn_net.specs.Network as Plain;
+
+    ghost Value = { Plain.Network };
+
+    ghost use Rattle.crn_net.specs.Views.{network_of};
+    ghost use Rattle.crn_net.specs.Limits.{IsValid};
+
+    ghost view = { λ n. network_of n.parts };
+
+    ghost invariant = { λ n. IsValid (network_of n.parts) };
+}
+
+impl Network {
+    pub fn rails(&self) -> Rails
+        ensures value { result ≡ self.now.rails }
+        ensures valid { IsNetwork self.now }
+    {
+        self.parts.rails
+    }
+
+    /// The number of species.
+    pub fn species(&self) -> u32
+        ensures value { result ≡ self.now.species }
+        ensures valid { IsNetwork self.now }
+        ensures limits { IsWithinLimits self.now }
+    {
+        self.parts.species
+    }
+
+    pub fn reaction_count(&self) -> u32
+        ensures value { result ≡ length self.now.reactions }
+        ensures valid { IsNetwork self.now }
+        ensures limits { IsWithinLimits self.now }
+    {
+        self.parts.reactions.len() as u32
+    }
+
+    /// The reaction of this number, from 1.
+    pub fn reaction(&self, number: u32) -> &Reaction
+        requires low { 1 ≤ number }
+        requires high { number ≤ length self.now.reactions }
+        ensures value { reaction_of result.now ≡ numbered self.now.reactions number }
+        ensures valid { IsReaction self.now.species (reaction_of result.now) }
+    {
+        &self.parts.reactions[number as usize - 1]
+    }
+
+    pub fn inputs(&self) -> &[Ends]
+        ensures value { result.now ≡ self.now.inputs }
+        ensures valid { IsNetwork self.now }
+        ensures limits { IsWithinLimits self.now }
+    {
+        &self.parts.inputs
+    }
+
+    pub fn output(&self) -> Ends
+        ensures value { result ≡ self.now.output }
+        ensures valid { IsNetwork self.now }
+    {
+        self.parts.output
+    }
+
+    pub fn context(&self) -> Option<u32>
+        ensures value { result ≡ self.now.context }
+        ensures valid { IsNetwork self.now }
+    {
+        self.parts.context
+    }
+}
