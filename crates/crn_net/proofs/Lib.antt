@@ -12,3 +12,5 @@ pub mod FeedForward
 pub mod Start
 pub mod InRun
 pub mod ReadBack
+pub mod Sides
+pub mod InputLists

@@ -6,7 +6,7 @@ use Rattle.crn_net.specs.Views.{reaction_of, network_of}
 use Rattle.crn_net.specs.declared.Parts.{Parts}
 use Rattle.crn_net.specs.declared.Reaction.{Reaction}
 
-reaction_read : (rs : List Reaction) (r : Reaction) (j n : ℕ) → n ≡ suc j → j < length rs → r ≡ get_or rs j r → reaction_of r ≡ Plain.numbered (map reaction_of rs) n
+pub reaction_read : (rs : List Reaction) (r : Reaction) (j n : ℕ) → n ≡ suc j → j < length rs → r ≡ get_or rs j r → reaction_of r ≡ Plain.numbered (map reaction_of rs) n
 reaction_read rs r j n e l h =
     ap reaction_of h ∙ sym (get_or-map reaction_of rs j r (record { takes = []; gives = [] }) l) ∙ ap (λ k. Plain.numbered (map reaction_of rs) k) (sym e)
 

@@ -1,6 +1,6 @@
 -- Why parts are refused: the first cause in order. The causes exclude each other, so each comes exactly where it holds.
-use Rattle.std.specs.Prelude.{◌≡◌, ℕ, ◌≤◌, ◌<◌, length, take}
-use Rattle.crn_net.specs.Network.{Network, IsEnds, AreEnds, IsContext, IsReaction, AreDifferent, input_species, numbered}
+use Rattle.std.specs.Prelude.{◌≡◌, ℕ, ◌≤◌, ◌<◌, List, length, take}
+use Rattle.crn_net.specs.Network.{Network, Rails, Ends, Reaction, IsEnds, AreEnds, IsContext, IsReaction, AreDifferent, input_species, numbered}
 use Rattle.crn_net.specs.declared.NetworkError.{NetworkError}
 use Rattle.crn_net.specs.declared.NetworkError.TheVariants.{Species, Reactions, Inputs, Input, Output, Context, Reaction as BadReaction, Memory}
 
@@ -20,9 +20,16 @@ HasReactions net = length net.reactions ≤ 65536
 abbrev pub HasInputs : Network → Type 0
 HasInputs net = (1 ≤ length net.inputs) × (length net.inputs ≤ 8)
 
--- the first n inputs are of the right sort, in range, and name no species twice
-abbrev pub AreInputs : Network → ℕ → Type 0
-AreInputs net n = AreEnds net.rails net.species (take n net.inputs) × AreDifferent (input_species (take n net.inputs))
+-- inputs of the right sort and in range, that name no species twice
+abbrev pub AreInputs : Rails → ℕ → List Ends → Type 0
+AreInputs rails n es = AreEnds rails n es × AreDifferent (input_species es)
+
+-- the first i inputs
+abbrev pub AreInputsTo : Rails → ℕ → List Ends → ℕ → Type 0
+AreInputsTo rails n es i = AreInputs rails n (take i es)
+
+abbrev pub HasGoodInputs : Network → Type 0
+HasGoodInputs net = AreInputs net.rails net.species net.inputs
 
 abbrev pub HasOutput : Network → Type 0
 HasOutput net = IsEnds net.rails net.species net.output
@@ -30,18 +37,23 @@ HasOutput net = IsEnds net.rails net.species net.output
 abbrev pub HasContext : Network → Type 0
 HasContext net = IsContext net.species net.inputs net.context
 
--- reaction r is well formed
-abbrev pub IsGoodReaction : Network → ℕ → Type 0
-IsGoodReaction net r = IsReaction net.species (numbered net.reactions r)
+-- reaction r of the list is well formed
+abbrev pub IsReactionAt : ℕ → List Reaction → ℕ → Type 0
+IsReactionAt n rs r = IsReaction n (numbered rs r)
 
+-- each reaction of the list is
+abbrev pub AreReactionsAt : ℕ → List Reaction → Type 0
+AreReactionsAt n rs = (r : ℕ) → 1 ≤ r → r ≤ length rs → IsReactionAt n rs r
+
+-- the parts of this network are refused for this
 abbrev pub IsCause : Network → NetworkError → Type 0
 IsCause net (Species k) = (k ≡ net.species) × (HasSpecies net → ⊥)
 IsCause net (Reactions k) = HasSpecies net × (k ≡ length net.reactions) × (HasReactions net → ⊥)
 IsCause net (Inputs k) = HasSpecies net × HasReactions net × (k ≡ length net.inputs) × (HasInputs net → ⊥)
-IsCause net (Input i) = HasSpecies net × HasReactions net × HasInputs net × IsFirst (AreInputs net) (length net.inputs) i
-IsCause net Output = HasSpecies net × HasReactions net × HasInputs net × AreInputs net (length net.inputs) × (HasOutput net → ⊥)
-IsCause net Context = HasSpecies net × HasReactions net × HasInputs net × AreInputs net (length net.inputs) × HasOutput net × (HasContext net → ⊥)
+IsCause net (Input i) = HasSpecies net × HasReactions net × HasInputs net × IsFirst (AreInputsTo net.rails net.species net.inputs) (length net.inputs) i
+IsCause net Output = HasSpecies net × HasReactions net × HasInputs net × HasGoodInputs net × (HasOutput net → ⊥)
+IsCause net Context = HasSpecies net × HasReactions net × HasInputs net × HasGoodInputs net × HasOutput net × (HasContext net → ⊥)
 IsCause net (BadReaction r) =
-    HasSpecies net × HasReactions net × HasInputs net × AreInputs net (length net.inputs) × HasOutput net × HasContext net
-    × IsFirst (IsGoodReaction net) (length net.reactions) r
+    HasSpecies net × HasReactions net × HasInputs net × HasGoodInputs net × HasOutput net × HasContext net
+    × IsFirst (IsReactionAt net.species net.reactions) (length net.reactions) r
 IsCause net Memory = Unit {0}

@@ -5,3 +5,5 @@ pub mod Views
 pub mod Limits
 pub mod Causes
 pub mod Minimum
+pub mod Inputs
+pub mod Sides

@@ -4,16 +4,18 @@
 //! segments, runs, completion, stable computation) is defined in `specs/Network.antt`, and `laws` has what holds of every network.
 #![tactic(auto)]
 
-ghost use Rattle.std.specs.Prelude.{◌≡◌, ◌≤◌, length};
+ghost use Rattle.std.specs.Prelude.{◌≡◌, ◌≤◌, length, MatchResult};
 ghost use Rattle.crn_net.specs.Network.{IsNetwork, IsReaction, numbered};
-ghost use Rattle.crn_net.specs.Views.{reaction_of};
-ghost use Rattle.crn_net.specs.Limits.{IsWithinLimits};
+ghost use Rattle.crn_net.specs.Views.{network_of, reaction_of};
+ghost use Rattle.crn_net.specs.Limits.{IsWithinLimits, IsValid};
+ghost use Rattle.crn_net.specs.Causes.{IsCause};
 
 use crn_fraction::Frac;
 use std::alloc::Global;
 use std::marker::Model;
 use thiserror::Error;
 
+mod checks;
 pub mod laws;
 
 /// Whether a number is the difference of the amounts of two species, or the amount of one.
@@ -104,6 +106,14 @@ impl Model for Network {
 }
 
 impl Network {
+    /// The network of these parts, or their first fault. The parts are dropped on a refusal.
+    pub fn make(_alloc: Global, parts: Parts) -> Result<Network, NetworkError>
+        ensures { MatchResult result (λ n. (n ≡ network_of parts) × IsValid (network_of parts)) (IsCause (network_of parts)) }
+    {
+        checks::check(&parts)?;
+        Ok(Network { parts })
+    }
+
     pub fn rails(&self) -> Rails
         ensures value { result ≡ self.now.rails }
         ensures valid { IsNetwork self.now }

@@ -1,0 +1,5 @@
+use Rattle.crn_net.specs.Sides.{RestIsSide}
+use Rattle.crn_net.proofs.checks.is_side.Given as goal
+
+abbrev pub invariant-loop-part : goal.invariant-loop-part
+invariant-loop-part l = RestIsSide l.species l.parts l.part-index l.last
