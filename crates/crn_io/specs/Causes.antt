@@ -1,0 +1,20 @@
+-- When a count of faults rose.
+use Rattle.std.specs.Prelude.{ℕ, ◌+◌, ◌-◌, ◌^◌, ◌≤◌, min, OnErr}
+use Rattle.std.specs.declared.result.Result.{Result}
+
+-- one more than n, as a count that stays at the greatest u64
+abbrev pub raised : ℕ → ℕ
+raised n = min (n + 1) (2 ^ 64 - 1)
+
+-- the number of the call after n calls
+abbrev pub next_call : ℕ → ℕ
+next_call n = raised n
+
+-- the count rose, or stands at the greatest u64
+abbrev pub Rose : ℕ → ℕ → Type 0
+Rose before now = raised before ≤ now
+
+-- the count doesn't fall, and where the call failed it rose
+pub record HasCause {T E : Type 0} (before now : ℕ) (result : Result T E) : Type 0 where
+  pub later : before ≤ now
+  pub failed : OnErr result (Rose before now)
