@@ -14,3 +14,5 @@ pub mod InRun
 pub mod ReadBack
 pub mod Sides
 pub mod InputLists
+pub mod Turns
+pub mod MinimumRun
