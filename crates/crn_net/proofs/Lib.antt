@@ -5,6 +5,7 @@ pub mod Taken
 pub mod Unique
 pub mod Completion
 pub mod Made
+pub mod Exhausted
 pub mod Settling
 pub mod Computes
 pub mod Flows

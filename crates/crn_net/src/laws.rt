@@ -1,8 +1,8 @@
 //! What holds of every network. Each function here does nothing: its contract is a theorem about the definitions of `specs/Network.antt`, proved with the crate.
 ghost use Rattle.std.specs.Prelude.{◌≡◌, ◌++◌, ◌≤◌, ℕ, List, length, pos};
 ghost use Rattle.crn_fraction.specs.Rational.{ℚ, whole};
-ghost use Rattle.crn_net.specs.Network.{Network, Reaction, Flow, completion, output, AreReactions, IsNetwork, IsState, IsNotNegative, IsFeedForward, AreFlows, AreNotNegative, Run, StablyComputes, amount, after, after_all, start, value_at, greatest_flux};
-ghost use Rattle.crn_net.specs.Totals.{Leads, total, IsGreatest, IsComplete, IsConfluent, FirstLack, AreUntaken, made_by, made_in, added, change};
+ghost use Rattle.crn_net.specs.Network.{Network, Reaction, Flow, completion, output, AreReactions, IsNetwork, IsState, IsNotNegative, IsFeedForward, AreFlows, AreNotNegative, Run, IsSettled, StablyComputes, amount, after, after_all, start, value_at, greatest_flux};
+ghost use Rattle.crn_net.specs.Totals.{Leads, total, IsGreatest, IsComplete, IsConfluent, IsExhausted, FirstLack, AreUntaken, made_by, made_in, added, change};
 ghost use Rattle.crn_net.specs.Reactions.{FeedsForward, given_all};
 ghost use Rattle.crn_net.specs.Minimum.{minimum, amounts, segments};
 
@@ -29,6 +29,12 @@ pub fn lists_feed_forward()
 /// In a feed-forward network the completion is a run, after which each reaction lacks a reactant.
 pub fn completions()
     ensures { (net : Network) → IsNetwork net → IsFeedForward net → (a : List ℚ) → IsState net a → IsComplete net a }
+{}
+
+/// Where each reaction lacks a reactant, every run leads nowhere, so the output is settled.
+pub fn exhausted_states()
+    ensures same { (net : Network) (c : List ℚ) → IsState net c → IsExhausted net c → (us : List (List Flow)) (d : List ℚ) → Run net c us d → d ≡ c }
+    ensures settled { (net : Network) (c : List ℚ) → IsState net c → IsExhausted net c → IsSettled net c (output net c) }
 {}
 
 /// Confluence: from each state of a feed-forward network, every run ends as the completion does once it is completed itself.
