@@ -5,6 +5,7 @@ pub mod Taken
 pub mod Unique
 pub mod Completion
 pub mod Made
+pub mod Exhausted
 pub mod Settling
 pub mod Computes
 pub mod Flows
@@ -14,3 +15,5 @@ pub mod InRun
 pub mod ReadBack
 pub mod Sides
 pub mod InputLists
+pub mod Turns
+pub mod MinimumRun

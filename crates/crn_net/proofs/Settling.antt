@@ -9,14 +9,12 @@ use Rattle.crn_fraction.proofs.Ring.{+ℚ-zero, *ℚ-zero, +ℚ_cancel_right}
 use Rattle.crn_fraction.specs.Rational.{ℚ, 0ℚ, ◌+ℚ◌, ◌-ℚ◌, ◌*ℚ◌, ◌≤ℚ◌, ◌<ℚ◌, whole}
 use Rattle.crn_net.proofs.Balance.{flux_not_negative, flux_outside, after-leads, leads_on, all_lead}
 use Rattle.crn_net.proofs.Completion.{run_end, run_not_negative, completion_runs, completion_exhausts}
+use Rattle.crn_net.proofs.Exhausted.{SameAmounts, stays, length-after_all, same_states}
 use Rattle.crn_net.proofs.Made.{flux_is}
 use Rattle.crn_net.proofs.Sums.{sum_cong, sum_none}
 use Rattle.crn_net.proofs.Taken.{taken_in_range, greatest_flux_fits, greatest_flux_uses}
 use Rattle.crn_net.specs.Network.{Network, Flow, Ends, Pair, One, amount, sum_to, flux_of, taken, given, after, after_all, IsLegal, Run, value_at, output, greatest_flux, completion, completed, start, IsFeedForward, IsNotNegative, AreReactions, IsNetwork, IsState, IsEnds, Rails, Dual, Direct, StablyComputes}
 use Rattle.crn_net.specs.Totals.{total, LacksReactant, IsExhausted, IsConfluent, taken_by, given_by, Leads, IsGreatest, IsComplete}
-
-abbrev pub SameAmounts : Network → List ℚ → List ℚ → Type 0
-SameAmounts net c d = (s : ℕ) → 1 ≤ s → s ≤ net.species → amount c s ≡ amount d s
 
 pub same_output : (net : Network) (c d : List ℚ) → IsEnds net.rails net.species net.output → SameAmounts net c d → output net c ≡ output net d
 same_output net c d ok h = go net.rails net.output ok
@@ -26,36 +24,6 @@ same_output net c d ok h = go net.rails net.output ok
     go Dual (One a) k = absurd k
     go Direct (Pair a b) k = absurd k
     go Direct (One a) k = h a k.0 k.1
-
--- ---- nothing happens where each reaction lacks a reactant
-
-no_flux_left : (net : Network) (c : List ℚ) (u : List Flow) → IsExhausted net c → IsLegal net c u → (r : ℕ) → flux_of u r ≡ 0ℚ
-no_flux_left net c u x h r =
-    ⊎_elim (λ (p : flux_of u r ≤ℚ 0ℚ). ≤ℚ_antisymm _ _ p (flux_not_negative (length net.reactions) u r h.flows))
-    (λ (p : 0ℚ <ℚ flux_of u r).
-    ⊎_elim (λ (there : (1 ≤ r) × (r ≤ length net.reactions)).
-    let lack : LacksReactant net r c = x r there.0 there.1 in
-    absurd (not_<ℚ _ _ (≤ℚ_refl 0ℚ) (subst (λ y. 0ℚ <ℚ y) lack.2 (h.applicable r p lack.0 lack.1))))
-    (λ (out : (1 ≤ r) × (r ≤ length net.reactions) → ⊥). flux_outside (length net.reactions) u r h.flows out) (grind arith))
-    (≤ℚ_or_<ℚ (flux_of u r) 0ℚ)
-
-no_sum : (net : Network) (c : List ℚ) (u : List Flow) → IsExhausted net c → IsLegal net c u → (f : ℕ → ℕ) → sum_to (length net.reactions) (λ r. whole (pos (f r)) *ℚ flux_of u r) ≡ 0ℚ
-no_sum net c u x h f = sum_none _ _ (λ r _ _. ap (λ y. whole (pos (f r)) *ℚ y) (no_flux_left net c u x h r) ∙ *ℚ-zero _)
-
-nothing_moves : (net : Network) (c : List ℚ) (u : List Flow) → IsExhausted net c → IsLegal net c u → SameAmounts net (after net c u) c
-nothing_moves net c u x h s low high =
-    sym (+ℚ-zero _) ∙ ap (λ y. amount (after net c u) s +ℚ y) (sym (no_sum net c u x h (λ r. taken net r s))) ∙ after-leads net c u s low high
-    ∙ ap (λ y. amount c s +ℚ y) (no_sum net c u x h (λ r. given net r s)) ∙ +ℚ-zero _
-
-pub stays : (net : Network) → AreReactions net → (us : List (List Flow)) (c d : List ℚ) → IsExhausted net c → Run net c us d → SameAmounts net d c
-stays net ok [] c d x h s low high = ap (λ e. amount e s) h
-stays net ok (u ∷ us) c d x h s low high =
-    let moved : SameAmounts net (after net c u) c = nothing_moves net c u x h.0 in
-    let still : IsExhausted net (after net c u) = λ r l k.
-    let lack : LacksReactant net r c = x r l k in
-    let range : (1 ≤ lack.0) × (lack.0 ≤ net.species) = taken_in_range net ok r lack.0 lack.1 in
-    (lack.0, lack.1, moved lack.0 range.0 range.1 ∙ lack.2) in
-    stays net ok us (after net c u) d still h.1 s low high ∙ moved s low high
 
 -- ---- confluence
 
@@ -91,23 +59,12 @@ computes net ok ff xs v nn is = record {
   completes = λ us c run. completion_runs net ok.reactions ff c (run_not_negative net us _ c nn run);
   settles = λ us c run vs d more.
       let here : IsNotNegative c = run_not_negative net us _ c nn run in
-      same_output net d (completed net c) ok.output (stays net ok.reactions vs (completed net c) d (completion_exhausts net ok.reactions ff c here) more)
+      same_output net d (completed net c) ok.output (stays net vs (completed net c) d (completion_exhausts net ok.reactions ff c here) more)
       ∙ same_output net (completed net c) (completed net (start net xs)) ok.output (confluent_amounts net ok ff (start net xs) nn us c run)
       ∙ is;
 }
 
--- ---- the same end, as a list
-
-length-after : (net : Network) (c : List ℚ) (u : List Flow) → length (after net c u) ≡ net.species
-unfolding after
-length-after net c u = length-map-range_with_len _ 1 net.species
-
-pub length-after_all : (net : Network) (us : List (List Flow)) (c : List ℚ) → length c ≡ net.species → length (after_all net c us) ≡ net.species
-length-after_all net [] c h = h
-length-after_all net (u ∷ us) c h = length-after_all net us (after net c u) (length-after net c u)
-
-same_states : (net : Network) (c d : List ℚ) → length c ≡ net.species → length d ≡ net.species → SameAmounts net c d → c ≡ d
-same_states net c d h k same = ext_get_or 0ℚ c d (h ∙ sym k) (λ i l. same (suc i) (omega arith) (omega arith))
+-- ---- the theorems
 
 -- a run has no negative flux
 total_not_negative : (net : Network) (us : List (List Flow)) (c d : List ℚ) → Run net c us d → (r : ℕ) → 0ℚ ≤ℚ total us r

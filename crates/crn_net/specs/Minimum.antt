@@ -1,6 +1,7 @@
 -- The network of the minimum of two variables, written out.
-use Rattle.std.specs.Prelude.{ℕ, [], ◌∷◌, None}
-use Rattle.crn_net.specs.Network.{Network, Part, Reaction, Dual, Pair}
+use Rattle.std.specs.Prelude.{ℕ, List, [], ◌∷◌, None, pos}
+use Rattle.crn_fraction.specs.Rational.{ℚ, 0ℚ, ratio, whole}
+use Rattle.crn_net.specs.Network.{Network, Part, Reaction, Flow, Dual, Pair, alone}
 
 -- 1 of a species
 abbrev pub one : ℕ → Part
@@ -29,3 +30,19 @@ minimum = record {
   output = Pair 15 16;
   context = None;
 }
+
+-- ---- a case: 3/2 and 1/2 for the first variable, 2 and 0 for the second
+
+abbrev pub amounts : List ℚ
+amounts = ratio (pos 3) 2 ∷ ratio (pos 1) 2 ∷ whole (pos 2) ∷ 0ℚ ∷ []
+
+-- the ten segments of its completion
+abbrev pub segments : List (List Flow)
+segments =
+    alone 1 (ratio (pos 3) 2) ∷ alone 2 (ratio (pos 1) 2) ∷ alone 3 (whole (pos 2))
+    ∷ alone 5 (ratio (pos 3) 2) ∷ alone 6 (ratio (pos 1) 2) ∷ alone 7 (whole (pos 2))
+    ∷ alone 9 (ratio (pos 3) 2)
+    ∷ alone 11 (whole (pos 2))
+    ∷ alone 12 (ratio (pos 1) 2)
+    ∷ alone 13 (ratio (pos 3) 2)
+    ∷ []

@@ -1,9 +1,10 @@
 //! What holds of every network. Each function here does nothing: its contract is a theorem about the definitions of `specs/Network.antt`, proved with the crate.
-ghost use Rattle.std.specs.Prelude.{◌≡◌, ◌++◌, ◌≤◌, ℕ, List, length};
-ghost use Rattle.crn_fraction.specs.Rational.{ℚ};
-ghost use Rattle.crn_net.specs.Network.{Network, Reaction, Flow, AreReactions, IsNetwork, IsState, IsNotNegative, IsFeedForward, AreFlows, AreNotNegative, Run, StablyComputes, amount, after, after_all, start, value_at, greatest_flux};
-ghost use Rattle.crn_net.specs.Totals.{Leads, total, IsGreatest, IsComplete, IsConfluent, FirstLack, AreUntaken, made_by, made_in, added, change};
+ghost use Rattle.std.specs.Prelude.{◌≡◌, ◌++◌, ◌≤◌, ℕ, List, length, pos};
+ghost use Rattle.crn_fraction.specs.Rational.{ℚ, whole};
+ghost use Rattle.crn_net.specs.Network.{Network, Reaction, Flow, completion, output, AreReactions, IsNetwork, IsState, IsNotNegative, IsFeedForward, AreFlows, AreNotNegative, Run, IsSettled, StablyComputes, amount, after, after_all, start, value_at, greatest_flux};
+ghost use Rattle.crn_net.specs.Totals.{Leads, total, IsGreatest, IsComplete, IsConfluent, IsExhausted, FirstLack, AreUntaken, made_by, made_in, added, change};
 ghost use Rattle.crn_net.specs.Reactions.{FeedsForward, given_all};
+ghost use Rattle.crn_net.specs.Minimum.{minimum, amounts, segments};
 
 /// Kept totals: of each species, what is there after segments and what they took is what was there before and what they gave.
 pub fn kept_totals()
@@ -30,6 +31,12 @@ pub fn completions()
     ensures { (net : Network) → IsNetwork net → IsFeedForward net → (a : List ℚ) → IsState net a → IsComplete net a }
 {}
 
+/// Where each reaction lacks a reactant, every run leads nowhere, so the output is settled.
+pub fn exhausted_states()
+    ensures same { (net : Network) (c : List ℚ) → IsState net c → IsExhausted net c → (us : List (List Flow)) (d : List ℚ) → Run net c us d → d ≡ c }
+    ensures settled { (net : Network) (c : List ℚ) → IsState net c → IsExhausted net c → IsSettled net c (output net c) }
+{}
+
 /// Confluence: from each state of a feed-forward network, every run ends as the completion does once it is completed itself.
 pub fn confluence()
     ensures { (net : Network) → IsNetwork net → IsFeedForward net → (a : List ℚ) → IsState net a → IsConfluent net a }
@@ -44,4 +51,15 @@ pub fn settled_values()
 /// where the later reactions do not give it.
 pub fn made_in_runs()
     ensures { (net : Network) → AreReactions net → IsFeedForward net → (rs qs : List Reaction) → net.reactions ≡ rs ++ qs → (a : List ℚ) → IsNotNegative a → (us : List (List Flow)) (c : List ℚ) → Run net a us c → FirstLack net (length rs) c → (s : ℕ) → 1 ≤ s → s ≤ net.species → given_all qs s ≡ 0 → made_in net us c s ≡ made_by rs (amount a) s }
+{}
+
+/// The definitions on an example: the minimum of two variables, of which the first has 3/2 and 1/2 and the second 2 and 0.
+/// Its completion is the ten written segments. They are a run, and lead to the output 1, which no run changes.
+pub fn completion_of_the_minimum()
+    ensures valid { IsNetwork minimum }
+    ensures feed_forward { IsFeedForward minimum }
+    ensures completion { completion minimum (start minimum amounts) ≡ segments }
+    ensures run { Run minimum (start minimum amounts) segments (after_all minimum (start minimum amounts) segments) }
+    ensures output { output minimum (after_all minimum (start minimum amounts) segments) ≡ whole (pos 1) }
+    ensures computes { StablyComputes minimum amounts (whole (pos 1)) }
 {}

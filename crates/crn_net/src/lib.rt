@@ -170,3 +170,6 @@ impl Network {
         self.parts.context
     }
 }
+
+#[cfg(test)]
+mod tests;
