@@ -1,0 +1,7 @@
+pub mod JobText
+pub mod Reading
+pub mod Statuses
+pub mod Table
+pub mod Report
+pub mod Answer
+pub mod Told

@@ -1,0 +1,73 @@
+//! Completes runs of a rate-independent reaction network, from a text on standard input.
+#![tactic(auto)]
+
+ghost use Rattle.std.specs.Prelude.{map, ◌≡◌, ◌≢◌, ◌⊎◌, string_bytes};
+ghost use Rattle.crn_io.specs.Causes.{Rose};
+ghost use Rattle.crn_program.specs.Answer.{IsNoRow, Answers};
+ghost use Rattle.crn_program.specs.Told.{Told, AnswersTo, TakesText};
+
+use answer::{Stop, answer};
+use crn_io::{Failed, Sink, Source, StdSink, StdSource, write_all};
+use status::Status;
+use std::alloc::{AllocError, Global};
+use std::env;
+use std::io;
+use std::process::ExitCode;
+use std::rt::Env;
+
+mod answer;
+mod completion;
+mod job;
+mod minimum;
+mod report;
+mod status;
+
+/// Runs the program on the words: reads a text where they are a command, and writes the answer.
+pub fn top<S: Source, K: Sink>(
+    alloc: Global,
+    words: &[String],
+    source: &mut S,
+    sink: &mut K,
+) -> Status
+    // What was written is the text of the answer to what came.
+    ensures told { Told (AnswersTo (Answers (map string_bytes words.now)) (S.left source.old)) (K.written sink.old) (K.written sink.new) result }
+
+    // What was read.
+    ensures takes { result ≢ Status.ReadFault → result ≢ Status.Memory → IsNoRow (map string_bytes words.now) ⊎ TakesText (S.left source.old) (S.left source.new) }
+    ensures untouched { IsNoRow (map string_bytes words.now) → source.new ≡ source.old }
+
+    // A fault is told only where there was one.
+    ensures read_fault { result ≡ Status.ReadFault → Rose (S.faults source.old) (S.faults source.new) }
+    ensures write_fault { result ≡ Status.WriteFault → Rose (K.faults sink.old) (K.faults sink.new) }
+    ensures no_row { IsNoRow (map string_bytes words.now) → result ≢ Status.ReadFault }
+{
+    match answer(alloc, words, source) {
+        Ok((status, text)) => match write_all(sink, text.as_bytes()) {
+            Ok(()) => status,
+            Err(Failed) => Status::WriteFault,
+        },
+        Err(Stop::ReadFault) => Status::ReadFault,
+        Err(Stop::Memory) => Status::Memory,
+    }
+}
+
+// The words of the command line, without the program's name. Words that are no text are one empty word.
+fn words(rt: &(impl Env + AllocGlobal)) -> Result<Vec<String>, AllocError> {
+    match env::args(rt) {
+        Ok(args) => args.skip(1).collect(rt.alloc()),
+        Err(error) if error.kind() == io::ErrorKind::OutOfMemory => Err(AllocError),
+        Err(_) => Ok(vec![in rt.alloc(); String::new(rt.alloc())]?),
+    }
+}
+
+fn main(rt: HostRuntime) -> ExitCode {
+    let status = match words(&rt) {
+        Ok(words) => {
+            let mut source = StdSource::new(rt.stdin());
+            let mut sink = StdSink::new(rt.stdout());
+            top(rt.alloc(), &words, &mut source, &mut sink)
+        }
+        Err(_) => Status::Memory,
+    };
+    ExitCode::from(status.number())
+}
