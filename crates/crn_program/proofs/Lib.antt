@@ -4,3 +4,6 @@ pub mod Fronts
 pub mod ReadingLaws
 pub mod MinimumNetwork
 pub mod ReportLaws
+pub mod Shifting
+pub mod PartLists
+pub mod Turning
