@@ -98,3 +98,28 @@ inputs_more rails n es i d l h k = subst (AreInputs rails n) (sym (take_more es 
 
 pub input_is_new : (rails : Rails) (n : ℕ) (es : List Ends) (i : ℕ) (d : Ends) → i < length es → AreInputsTo rails n es (i + 1) → IsNewInput rails n (take i es) (get_or es i d)
 input_is_new rails n es i d l h = last_is_new rails n (take i es) (get_or es i d) (subst (AreInputs rails n) (take_more es i d l) h)
+
+-- ---- the first of inputs
+
+ends_take : (rails : Rails) (n : ℕ) (es : List Ends) (i : ℕ) → AreEnds rails n es → AreEnds rails n (take i es)
+ends_take rails n [] zero h = tt
+ends_take rails n [] (suc i) h = tt
+ends_take rails n (e ∷ es) zero h = tt
+ends_take rails n (e ∷ es) (suc i) h = (h.0, ends_take rails n es i h.1)
+
+apart_take : (x : ℕ) (es : List Ends) (i : ℕ) → IsApart x (input_species es) → IsApart x (input_species (take i es))
+apart_take x [] zero h = tt
+apart_take x [] (suc i) h = tt
+apart_take x (e ∷ es) zero h = tt
+apart_take x (Pair a b ∷ es) (suc i) h = (h.0, (h.1.0, apart_take x es i h.1.1))
+apart_take x (One a ∷ es) (suc i) h = (h.0, apart_take x es i h.1)
+
+different_take : (es : List Ends) (i : ℕ) → AreDifferent (input_species es) → AreDifferent (input_species (take i es))
+different_take [] zero h = tt
+different_take [] (suc i) h = tt
+different_take (e ∷ es) zero h = tt
+different_take (Pair a b ∷ es) (suc i) h = ((h.0.0, apart_take a es i h.0.1), (apart_take b es i h.1.0, different_take es i h.1.1))
+different_take (One a ∷ es) (suc i) h = (apart_take a es i h.0, different_take es i h.1)
+
+pub inputs_take : (rails : Rails) (n : ℕ) (es : List Ends) (i : ℕ) → AreInputs rails n es → AreInputsTo rails n es i
+inputs_take rails n es i h = (ends_take rails n es i h.0, different_take es i h.1)

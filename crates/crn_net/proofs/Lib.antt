@@ -17,3 +17,4 @@ pub mod Sides
 pub mod InputLists
 pub mod Turns
 pub mod MinimumRun
+pub mod Causes

@@ -6,7 +6,11 @@ use Rattle.std.specs.Prelude.{ℤ, pos, negsuc, ◌≤ℤ◌}
 use Rattle.crn_net.specs.Network.{AreParts}
 use Rattle.crn_net.specs.Views.{natural, part_of, parts_of}
 use Rattle.crn_net.specs.declared.Part.{Part}
-use Rattle.crn_net.specs.Sides.{RestIsSide}
+
+-- what is left after i parts, the last of species `low`, is well formed where all are
+pub record RestIsSide (n : ℕ) (ps : List Part) (i low : ℕ) : Type 0 where
+  pub down : AreParts 0 n (parts_of ps) → AreParts low n (parts_of (drop i ps))
+  pub up : AreParts low n (parts_of (drop i ps)) → AreParts 0 n (parts_of ps)
 
 abbrev pub read : List Part → ℕ → Part
 read ps i = get_or ps i (record { species = 0; count = pos 0 })
