@@ -1,9 +1,9 @@
 -- Causes of refusal exclude each other, and valid parts have none.
-use Rattle.std.proofs.Common.{◌≡◌, ◌≢◌, ℕ, ◌<◌, ◌≤◌, length, refl, sym, ◌∙◌, ap, subst, ◌⊎◌, ⊎_elim, arith, take_all, le_refl}
+use Rattle.std.proofs.Common.{◌≡◌, ◌≢◌, ℕ, ◌<◌, length, refl, sym, ◌∙◌, ap, ◌⊎◌, ⊎_elim, arith}
 use Rattle.crn_net.proofs.InputLists.{inputs_take}
-use Rattle.crn_net.specs.Causes.{IsFirst, IsCause, AreInputs, AreInputsTo, IsReactionAt, HasSpecies, HasReactions, HasInputs}
-use Rattle.crn_net.specs.Limits.{IsValid, IsWithinLimits}
-use Rattle.crn_net.specs.Network.{Network, AreEnds, AreReactions, IsNetwork}
+use Rattle.crn_net.specs.Causes.{IsFirst, IsCause, AreInputsTo, IsReactionAt}
+use Rattle.crn_net.specs.Limits.{IsValid}
+use Rattle.crn_net.specs.Network.{Network}
 use Rattle.crn_net.specs.declared.NetworkError.{NetworkError}
 use Rattle.crn_net.specs.declared.NetworkError.TheVariants.{Species, Reactions, Inputs, Input, Output, Context, Reaction as BadReaction, Memory}
 

@@ -1,5 +1,5 @@
 -- Inputs one after another.
-use Rattle.std.proofs.Common.{◌≡◌, ◌≢◌, ℕ, zero, suc, ◌+◌, ◌<◌, ◌≤◌, List, [], ◌∷◌, ◌++◌, length, get_or, take, refl, sym, ◌∙◌, ap, subst, arith}
+use Rattle.std.proofs.Common.{◌≡◌, ℕ, zero, suc, ◌+◌, ◌<◌, List, [], ◌∷◌, ◌++◌, length, get_or, take, refl, sym, ap, subst, arith}
 use Rattle.std.proofs.lemmas.List.{take_more}
 use Rattle.crn_net.specs.Network.{IsApart, AreDifferent, AreEnds, IsEnds, input_species}
 use Rattle.crn_net.specs.declared.Rails.{Rails}
@@ -70,7 +70,7 @@ end_different Direct n (One a) h = (tt, tt)
 pub new_more : (es : List Ends) (i x : ℕ) (d : Ends) → i < length es → IsApart x (input_species (take i es)) → IsApart x (species_of (get_or es i d)) → IsApart x (input_species (take (i + 1) es))
 new_more es i x d l h k =
     subst (λ (fs : List Ends). IsApart x (input_species fs)) (sym (take_more es i d l))
-      (subst (IsApart x) (sym (species_push (take i es) (get_or es i d))) (apart-append x (input_species (take i es)) (species_of (get_or es i d)) h k))
+    (subst (IsApart x) (sym (species_push (take i es) (get_or es i d))) (apart-append x (input_species (take i es)) (species_of (get_or es i d)) h k))
 
 pub apart_at : (es : List Ends) (i x : ℕ) (d : Ends) → i < length es → IsApart x (input_species es) → IsApart x (species_of (get_or es i d))
 apart_at [] i x d l h = absurd (omega arith)
@@ -85,9 +85,10 @@ abbrev pub IsNewInput : Rails → ℕ → List Ends → Ends → Type 0
 IsNewInput rails n earlier e = IsEnds rails n e × AreNew (species_of e) (input_species earlier)
 
 inputs_push : (rails : Rails) (n : ℕ) (es : List Ends) (e : Ends) → AreInputs rails n es → IsNewInput rails n es e → AreInputs rails n (es ++ e ∷ [])
-inputs_push rails n es e h k =
-    (ends_push rails n es e h.0 k.0,
-      subst AreDifferent (sym (species_push es e)) (different-append (input_species es) (species_of e) h.1 (end_different rails n e k.0) k.1))
+inputs_push rails n es e h k = (
+  ends_push rails n es e h.0 k.0,
+  subst AreDifferent (sym (species_push es e)) (different-append (input_species es) (species_of e) h.1 (end_different rails n e k.0) k.1),
+)
 
 last_is_new : (rails : Rails) (n : ℕ) (es : List Ends) (e : Ends) → AreInputs rails n (es ++ e ∷ []) → IsNewInput rails n es e
 last_is_new rails n es e h =

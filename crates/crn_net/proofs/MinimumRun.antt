@@ -1,8 +1,7 @@
 -- The completion of the minimum of two variables in the written case, turn by turn.
-use Rattle.std.proofs.Common.{◌≡◌, ℕ, ◌<◌, ◌≤◌, List, [], ◌∷◌, refl, sym, ◌∙◌, ap, subst, arith}
+use Rattle.std.proofs.Common.{◌≡◌, List, [], ◌∷◌, refl, ◌∙◌, ap, subst, arith}
 use Rattle.std.specs.Prelude.{pos}
 use Rattle.std.proofs.lemmas.Int.{ints}
-use Rattle.crn_fraction.proofs.Order.{≤ℚ_refl}
 use Rattle.crn_fraction.proofs.Products.{nonneg_ratio, whole_nonneg}
 use Rattle.crn_fraction.specs.Gcd.{gcd}
 use Rattle.crn_fraction.specs.Rational.{ℚ, 0ℚ, ratio, whole, is_zero_ℚ, neg_ℚ, inverse_ℚ, min_ℚ, ◌+ℚ◌, ◌-ℚ◌, ◌*ℚ◌, ◌/ℚ◌}
@@ -11,8 +10,8 @@ use Rattle.crn_net.proofs.FeedForward.{feed_forward, are_reactions}
 use Rattle.crn_net.proofs.Settling.{computes}
 use Rattle.crn_net.proofs.Start.{start_not_negative}
 use Rattle.crn_net.proofs.Turns.{Reaches, begins, skips, happens, number_is}
-use Rattle.crn_net.specs.Minimum.{minimum, amounts, segments, into}
-use Rattle.crn_net.specs.Network.{Network, Reaction, Run, StablyComputes, IsReaction, IsNetwork, IsFeedForward, IsNotNegative, AreNotNegative, amount, start, output, after, after_all, alone, taken, given, greatest_flux, completion_to, completion, completed}
+use Rattle.crn_net.specs.Minimum.{minimum, amounts, segments}
+use Rattle.crn_net.specs.Network.{Run, StablyComputes, IsNetwork, IsFeedForward, IsNotNegative, AreNotNegative, start, output, after, after_all, alone, taken, given, greatest_flux, completion_to, completion}
 use Rattle.crn_net.specs.Reactions.{FeedsForward, EachReaction}
 
 abbrev state_0 : List ℚ
@@ -106,21 +105,46 @@ turn_13 = happens minimum state_0 12 (alone 1 (ratio (pos 3) 2) ∷ alone 2 (rat
 -- ---- the network
 
 each_reaction : EachReaction 16 minimum.reactions
-each_reaction =
-    (record { some_reactant = omega arith; takes = (omega arith, omega arith, omega arith, tt); gives = (omega arith, omega arith, omega arith, tt) },
-    (record { some_reactant = omega arith; takes = (omega arith, omega arith, omega arith, tt); gives = (omega arith, omega arith, omega arith, tt) },
-    (record { some_reactant = omega arith; takes = (omega arith, omega arith, omega arith, tt); gives = (omega arith, omega arith, omega arith, tt) },
-    (record { some_reactant = omega arith; takes = (omega arith, omega arith, omega arith, tt); gives = (omega arith, omega arith, omega arith, tt) },
-    (record { some_reactant = omega arith; takes = (omega arith, omega arith, omega arith, tt); gives = (omega arith, omega arith, omega arith, tt) },
-    (record { some_reactant = omega arith; takes = (omega arith, omega arith, omega arith, tt); gives = (omega arith, omega arith, omega arith, tt) },
-    (record { some_reactant = omega arith; takes = (omega arith, omega arith, omega arith, tt); gives = (omega arith, omega arith, omega arith, tt) },
-    (record { some_reactant = omega arith; takes = (omega arith, omega arith, omega arith, tt); gives = (omega arith, omega arith, omega arith, tt) },
-    (record { some_reactant = omega arith; takes = (omega arith, omega arith, omega arith, tt); gives = (omega arith, omega arith, omega arith, tt) },
-    (record { some_reactant = omega arith; takes = (omega arith, omega arith, omega arith, tt); gives = (omega arith, omega arith, omega arith, (omega arith, omega arith, omega arith, tt)) },
-    (record { some_reactant = omega arith; takes = (omega arith, omega arith, omega arith, tt); gives = (omega arith, omega arith, omega arith, tt) },
-    (record { some_reactant = omega arith; takes = (omega arith, omega arith, omega arith, tt); gives = (omega arith, omega arith, omega arith, (omega arith, omega arith, omega arith, tt)) },
-    (record { some_reactant = omega arith; takes = (omega arith, omega arith, omega arith, (omega arith, omega arith, omega arith, tt)); gives = (omega arith, omega arith, omega arith, tt) },
-    tt)))))))))))))
+each_reaction = (
+  record { some_reactant = omega arith; takes = (omega arith, omega arith, omega arith, tt); gives = (omega arith, omega arith, omega arith, tt) },
+  (
+    record { some_reactant = omega arith; takes = (omega arith, omega arith, omega arith, tt); gives = (omega arith, omega arith, omega arith, tt) },
+    (
+      record { some_reactant = omega arith; takes = (omega arith, omega arith, omega arith, tt); gives = (omega arith, omega arith, omega arith, tt) },
+      (
+        record { some_reactant = omega arith; takes = (omega arith, omega arith, omega arith, tt); gives = (omega arith, omega arith, omega arith, tt) },
+        (
+          record { some_reactant = omega arith; takes = (omega arith, omega arith, omega arith, tt); gives = (omega arith, omega arith, omega arith, tt) },
+          (
+            record { some_reactant = omega arith; takes = (omega arith, omega arith, omega arith, tt); gives = (omega arith, omega arith, omega arith, tt) },
+            (
+              record { some_reactant = omega arith; takes = (omega arith, omega arith, omega arith, tt); gives = (omega arith, omega arith, omega arith, tt) },
+              (
+                record { some_reactant = omega arith; takes = (omega arith, omega arith, omega arith, tt); gives = (omega arith, omega arith, omega arith, tt) },
+                (
+                  record { some_reactant = omega arith; takes = (omega arith, omega arith, omega arith, tt); gives = (omega arith, omega arith, omega arith, tt) },
+                  (
+                    record { some_reactant = omega arith; takes = (omega arith, omega arith, omega arith, tt); gives = (omega arith, omega arith, omega arith, (omega arith, omega arith, omega arith, tt)) },
+                    (
+                      record { some_reactant = omega arith; takes = (omega arith, omega arith, omega arith, tt); gives = (omega arith, omega arith, omega arith, tt) },
+                      (
+                        record { some_reactant = omega arith; takes = (omega arith, omega arith, omega arith, tt); gives = (omega arith, omega arith, omega arith, (omega arith, omega arith, omega arith, tt)) },
+                        (
+                          record { some_reactant = omega arith; takes = (omega arith, omega arith, omega arith, (omega arith, omega arith, omega arith, tt)); gives = (omega arith, omega arith, omega arith, tt) },
+                          tt,
+                        ),
+                      ),
+                    ),
+                  ),
+                ),
+              ),
+            ),
+          ),
+        ),
+      ),
+    ),
+  ),
+)
 
 pub minimum_is_network : IsNetwork minimum
 minimum_is_network = record {

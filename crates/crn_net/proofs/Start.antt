@@ -7,7 +7,7 @@ use Rattle.std.proofs.lemmas.List.{get_or_past}
 use Rattle.crn_fraction.proofs.Order.{≤ℚ_refl}
 use Rattle.crn_fraction.proofs.Products.{whole_nonneg}
 use Rattle.crn_fraction.specs.Rational.{ℚ, 0ℚ, ◌≤ℚ◌, whole}
-use Rattle.crn_net.specs.Network.{Network, amount, given_to, or_context, input_species, start, IsApart, IsNotNegative, AreNotNegative}
+use Rattle.crn_net.specs.Network.{Network, amount, given_to, or_context, input_species, start, IsNotNegative, AreNotNegative}
 
 -- ---- a choice by equal numbers
 
