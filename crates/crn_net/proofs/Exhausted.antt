@@ -50,10 +50,12 @@ nothing_moves net c u x h s low high =
 
 still_lacks : (net : Network) (c : List ℚ) (u : List Flow) → IsExhausted net c → IsLegal net c u → IsExhausted net (after net c u)
 still_lacks net c u x h r low high =
-    let lack : LacksReactant net r c = x r low high in
-    (lack.0, lack.1,
+    let lack : LacksReactant net r c = x r low high in (
+      lack.0,
+      lack.1,
       ⊎_elim (λ (there : (1 ≤ lack.0) × (lack.0 ≤ net.species)). nothing_moves net c u x h lack.0 there.0 there.1 ∙ lack.2)
-      (λ (out : (1 ≤ lack.0) × (lack.0 ≤ net.species) → ⊥). amount-outside net c u lack.0 out) (grind arith))
+          (λ (out : (1 ≤ lack.0) × (lack.0 ≤ net.species) → ⊥). amount-outside net c u lack.0 out) (grind arith),
+    )
 
 pub stays : (net : Network) (us : List (List Flow)) (c d : List ℚ) → IsExhausted net c → Run net c us d → SameAmounts net d c
 stays net [] c d x h s low high = ap (λ e. amount e s) h

@@ -1,5 +1,5 @@
 -- Inputs one after another.
-use Rattle.std.proofs.Common.{◌≡◌, ◌≢◌, ℕ, zero, suc, ◌+◌, ◌<◌, ◌≤◌, List, [], ◌∷◌, ◌++◌, length, get_or, take, refl, sym, ◌∙◌, ap, subst, arith}
+use Rattle.std.proofs.Common.{◌≡◌, ℕ, zero, suc, ◌+◌, ◌<◌, List, [], ◌∷◌, ◌++◌, length, get_or, take, refl, sym, ap, subst, arith}
 use Rattle.std.proofs.lemmas.List.{take_more}
 use Rattle.crn_net.specs.Network.{IsApart, AreDifferent, AreEnds, IsEnds, input_species}
 use Rattle.crn_net.specs.declared.Rails.{Rails}
@@ -70,7 +70,7 @@ end_different Direct n (One a) h = (tt, tt)
 pub new_more : (es : List Ends) (i x : ℕ) (d : Ends) → i < length es → IsApart x (input_species (take i es)) → IsApart x (species_of (get_or es i d)) → IsApart x (input_species (take (i + 1) es))
 new_more es i x d l h k =
     subst (λ (fs : List Ends). IsApart x (input_species fs)) (sym (take_more es i d l))
-      (subst (IsApart x) (sym (species_push (take i es) (get_or es i d))) (apart-append x (input_species (take i es)) (species_of (get_or es i d)) h k))
+    (subst (IsApart x) (sym (species_push (take i es) (get_or es i d))) (apart-append x (input_species (take i es)) (species_of (get_or es i d)) h k))
 
 pub apart_at : (es : List Ends) (i x : ℕ) (d : Ends) → i < length es → IsApart x (input_species es) → IsApart x (species_of (get_or es i d))
 apart_at [] i x d l h = absurd (omega arith)
@@ -85,9 +85,10 @@ abbrev pub IsNewInput : Rails → ℕ → List Ends → Ends → Type 0
 IsNewInput rails n earlier e = IsEnds rails n e × AreNew (species_of e) (input_species earlier)
 
 inputs_push : (rails : Rails) (n : ℕ) (es : List Ends) (e : Ends) → AreInputs rails n es → IsNewInput rails n es e → AreInputs rails n (es ++ e ∷ [])
-inputs_push rails n es e h k =
-    (ends_push rails n es e h.0 k.0,
-      subst AreDifferent (sym (species_push es e)) (different-append (input_species es) (species_of e) h.1 (end_different rails n e k.0) k.1))
+inputs_push rails n es e h k = (
+  ends_push rails n es e h.0 k.0,
+  subst AreDifferent (sym (species_push es e)) (different-append (input_species es) (species_of e) h.1 (end_different rails n e k.0) k.1),
+)
 
 last_is_new : (rails : Rails) (n : ℕ) (es : List Ends) (e : Ends) → AreInputs rails n (es ++ e ∷ []) → IsNewInput rails n es e
 last_is_new rails n es e h =
@@ -98,3 +99,28 @@ inputs_more rails n es i d l h k = subst (AreInputs rails n) (sym (take_more es 
 
 pub input_is_new : (rails : Rails) (n : ℕ) (es : List Ends) (i : ℕ) (d : Ends) → i < length es → AreInputsTo rails n es (i + 1) → IsNewInput rails n (take i es) (get_or es i d)
 input_is_new rails n es i d l h = last_is_new rails n (take i es) (get_or es i d) (subst (AreInputs rails n) (take_more es i d l) h)
+
+-- ---- the first of inputs
+
+ends_take : (rails : Rails) (n : ℕ) (es : List Ends) (i : ℕ) → AreEnds rails n es → AreEnds rails n (take i es)
+ends_take rails n [] zero h = tt
+ends_take rails n [] (suc i) h = tt
+ends_take rails n (e ∷ es) zero h = tt
+ends_take rails n (e ∷ es) (suc i) h = (h.0, ends_take rails n es i h.1)
+
+apart_take : (x : ℕ) (es : List Ends) (i : ℕ) → IsApart x (input_species es) → IsApart x (input_species (take i es))
+apart_take x [] zero h = tt
+apart_take x [] (suc i) h = tt
+apart_take x (e ∷ es) zero h = tt
+apart_take x (Pair a b ∷ es) (suc i) h = (h.0, (h.1.0, apart_take x es i h.1.1))
+apart_take x (One a ∷ es) (suc i) h = (h.0, apart_take x es i h.1)
+
+different_take : (es : List Ends) (i : ℕ) → AreDifferent (input_species es) → AreDifferent (input_species (take i es))
+different_take [] zero h = tt
+different_take [] (suc i) h = tt
+different_take (e ∷ es) zero h = tt
+different_take (Pair a b ∷ es) (suc i) h = ((h.0.0, apart_take a es i h.0.1), (apart_take b es i h.1.0, different_take es i h.1.1))
+different_take (One a ∷ es) (suc i) h = (apart_take a es i h.0, different_take es i h.1)
+
+pub inputs_take : (rails : Rails) (n : ℕ) (es : List Ends) (i : ℕ) → AreInputs rails n es → AreInputsTo rails n es i
+inputs_take rails n es i h = (ends_take rails n es i h.0, different_take es i h.1)

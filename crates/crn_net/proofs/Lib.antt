@@ -17,4 +17,4 @@ pub mod Sides
 pub mod InputLists
 pub mod Turns
 pub mod MinimumRun
-pub mod Valid
+pub mod Causes

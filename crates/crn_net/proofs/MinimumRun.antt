@@ -1,8 +1,7 @@
 -- The completion of the minimum of two variables in the written case, turn by turn.
-use Rattle.std.proofs.Common.{◌≡◌, ℕ, ◌<◌, ◌≤◌, List, [], ◌∷◌, refl, sym, ◌∙◌, ap, subst, arith}
+use Rattle.std.proofs.Common.{◌≡◌, List, [], ◌∷◌, refl, ◌∙◌, ap, subst, arith}
 use Rattle.std.specs.Prelude.{pos}
 use Rattle.std.proofs.lemmas.Int.{ints}
-use Rattle.crn_fraction.proofs.Order.{≤ℚ_refl}
 use Rattle.crn_fraction.proofs.Products.{nonneg_ratio, whole_nonneg}
 use Rattle.crn_fraction.specs.Gcd.{gcd}
 use Rattle.crn_fraction.specs.Rational.{ℚ, 0ℚ, ratio, whole, is_zero_ℚ, neg_ℚ, inverse_ℚ, min_ℚ, ◌+ℚ◌, ◌-ℚ◌, ◌*ℚ◌, ◌/ℚ◌}
@@ -11,116 +10,141 @@ use Rattle.crn_net.proofs.FeedForward.{feed_forward, are_reactions}
 use Rattle.crn_net.proofs.Settling.{computes}
 use Rattle.crn_net.proofs.Start.{start_not_negative}
 use Rattle.crn_net.proofs.Turns.{Reaches, begins, skips, happens, number_is}
-use Rattle.crn_net.specs.Minimum.{minimum, amounts, segments, into}
-use Rattle.crn_net.specs.Network.{Network, Reaction, Run, StablyComputes, IsReaction, IsNetwork, IsFeedForward, IsNotNegative, AreNotNegative, amount, start, output, after, after_all, alone, taken, given, greatest_flux, completion_to, completion, completed}
+use Rattle.crn_net.specs.Minimum.{minimum, amounts, segments}
+use Rattle.crn_net.specs.Network.{Run, StablyComputes, IsNetwork, IsFeedForward, IsNotNegative, AreNotNegative, start, output, after, after_all, alone, taken, given, greatest_flux, completion_to, completion}
 use Rattle.crn_net.specs.Reactions.{FeedsForward, EachReaction}
 
-abbrev state_0 : List ℚ
+abbrev pub state_0 : List ℚ
 state_0 = ratio (pos 3) 2 ∷ ratio (pos 1) 2 ∷ whole (pos 2) ∷ 0ℚ ∷ 0ℚ ∷ 0ℚ ∷ 0ℚ ∷ 0ℚ ∷ 0ℚ ∷ 0ℚ ∷ 0ℚ ∷ 0ℚ ∷ 0ℚ ∷ 0ℚ ∷ 0ℚ ∷ 0ℚ ∷ []
 
-abbrev state_1 : List ℚ
+abbrev pub state_1 : List ℚ
 state_1 = 0ℚ ∷ ratio (pos 1) 2 ∷ whole (pos 2) ∷ 0ℚ ∷ ratio (pos 3) 2 ∷ 0ℚ ∷ 0ℚ ∷ 0ℚ ∷ 0ℚ ∷ 0ℚ ∷ 0ℚ ∷ 0ℚ ∷ 0ℚ ∷ 0ℚ ∷ 0ℚ ∷ 0ℚ ∷ []
 
-abbrev state_2 : List ℚ
+abbrev pub state_2 : List ℚ
 state_2 = 0ℚ ∷ 0ℚ ∷ whole (pos 2) ∷ 0ℚ ∷ ratio (pos 3) 2 ∷ ratio (pos 1) 2 ∷ 0ℚ ∷ 0ℚ ∷ 0ℚ ∷ 0ℚ ∷ 0ℚ ∷ 0ℚ ∷ 0ℚ ∷ 0ℚ ∷ 0ℚ ∷ 0ℚ ∷ []
 
-abbrev state_3 : List ℚ
+abbrev pub state_3 : List ℚ
 state_3 = 0ℚ ∷ 0ℚ ∷ 0ℚ ∷ 0ℚ ∷ ratio (pos 3) 2 ∷ ratio (pos 1) 2 ∷ whole (pos 2) ∷ 0ℚ ∷ 0ℚ ∷ 0ℚ ∷ 0ℚ ∷ 0ℚ ∷ 0ℚ ∷ 0ℚ ∷ 0ℚ ∷ 0ℚ ∷ []
 
-abbrev state_4 : List ℚ
+abbrev pub state_4 : List ℚ
 state_4 = 0ℚ ∷ 0ℚ ∷ 0ℚ ∷ 0ℚ ∷ 0ℚ ∷ ratio (pos 1) 2 ∷ whole (pos 2) ∷ 0ℚ ∷ ratio (pos 3) 2 ∷ 0ℚ ∷ 0ℚ ∷ 0ℚ ∷ 0ℚ ∷ 0ℚ ∷ 0ℚ ∷ 0ℚ ∷ []
 
-abbrev state_5 : List ℚ
+abbrev pub state_5 : List ℚ
 state_5 = 0ℚ ∷ 0ℚ ∷ 0ℚ ∷ 0ℚ ∷ 0ℚ ∷ 0ℚ ∷ whole (pos 2) ∷ 0ℚ ∷ ratio (pos 3) 2 ∷ ratio (pos 1) 2 ∷ 0ℚ ∷ 0ℚ ∷ 0ℚ ∷ 0ℚ ∷ 0ℚ ∷ 0ℚ ∷ []
 
-abbrev state_6 : List ℚ
+abbrev pub state_6 : List ℚ
 state_6 = 0ℚ ∷ 0ℚ ∷ 0ℚ ∷ 0ℚ ∷ 0ℚ ∷ 0ℚ ∷ 0ℚ ∷ 0ℚ ∷ ratio (pos 3) 2 ∷ ratio (pos 1) 2 ∷ whole (pos 2) ∷ 0ℚ ∷ 0ℚ ∷ 0ℚ ∷ 0ℚ ∷ 0ℚ ∷ []
 
-abbrev state_7 : List ℚ
+abbrev pub state_7 : List ℚ
 state_7 = 0ℚ ∷ 0ℚ ∷ 0ℚ ∷ 0ℚ ∷ 0ℚ ∷ 0ℚ ∷ 0ℚ ∷ 0ℚ ∷ 0ℚ ∷ ratio (pos 1) 2 ∷ whole (pos 2) ∷ 0ℚ ∷ ratio (pos 3) 2 ∷ 0ℚ ∷ 0ℚ ∷ 0ℚ ∷ []
 
-abbrev state_8 : List ℚ
+abbrev pub state_8 : List ℚ
 state_8 = 0ℚ ∷ 0ℚ ∷ 0ℚ ∷ 0ℚ ∷ 0ℚ ∷ 0ℚ ∷ 0ℚ ∷ 0ℚ ∷ 0ℚ ∷ ratio (pos 1) 2 ∷ 0ℚ ∷ 0ℚ ∷ ratio (pos 3) 2 ∷ whole (pos 2) ∷ 0ℚ ∷ 0ℚ ∷ []
 
-abbrev state_9 : List ℚ
+abbrev pub state_9 : List ℚ
 state_9 = 0ℚ ∷ 0ℚ ∷ 0ℚ ∷ 0ℚ ∷ 0ℚ ∷ 0ℚ ∷ 0ℚ ∷ 0ℚ ∷ 0ℚ ∷ 0ℚ ∷ 0ℚ ∷ 0ℚ ∷ ratio (pos 3) 2 ∷ ratio (pos 5) 2 ∷ 0ℚ ∷ ratio (pos 1) 2 ∷ []
 
-abbrev state_10 : List ℚ
+abbrev pub state_10 : List ℚ
 state_10 = 0ℚ ∷ 0ℚ ∷ 0ℚ ∷ 0ℚ ∷ 0ℚ ∷ 0ℚ ∷ 0ℚ ∷ 0ℚ ∷ 0ℚ ∷ 0ℚ ∷ 0ℚ ∷ 0ℚ ∷ 0ℚ ∷ whole (pos 1) ∷ ratio (pos 3) 2 ∷ ratio (pos 1) 2 ∷ []
 
-turn_0 : Reaches minimum state_0 0 [] state_0
+pub turn_0 : Reaches minimum state_0 0 [] state_0
 turn_0 = begins minimum state_0
 
-turn_1 : Reaches minimum state_0 1 (alone 1 (ratio (pos 3) 2) ∷ []) state_1
+pub turn_1 : Reaches minimum state_0 1 (alone 1 (ratio (pos 3) 2) ∷ []) state_1
 unfolding after completion_to greatest_flux ratio gcd is_zero_ℚ ◌+ℚ◌ ◌-ℚ◌ ◌*ℚ◌ ◌/ℚ◌ neg_ℚ inverse_ℚ min_ℚ taken given
 turn_1 = happens minimum state_0 0 [] state_0 turn_0 (ratio (pos 3) 2) state_1 refl refl refl
 
-turn_2 : Reaches minimum state_0 2 (alone 1 (ratio (pos 3) 2) ∷ alone 2 (ratio (pos 1) 2) ∷ []) state_2
+pub turn_2 : Reaches minimum state_0 2 (alone 1 (ratio (pos 3) 2) ∷ alone 2 (ratio (pos 1) 2) ∷ []) state_2
 unfolding after completion_to greatest_flux ratio gcd is_zero_ℚ ◌+ℚ◌ ◌-ℚ◌ ◌*ℚ◌ ◌/ℚ◌ neg_ℚ inverse_ℚ min_ℚ taken given
 turn_2 = happens minimum state_0 1 (alone 1 (ratio (pos 3) 2) ∷ []) state_1 turn_1 (ratio (pos 1) 2) state_2 refl refl refl
 
-turn_3 : Reaches minimum state_0 3 (alone 1 (ratio (pos 3) 2) ∷ alone 2 (ratio (pos 1) 2) ∷ alone 3 (whole (pos 2)) ∷ []) state_3
+pub turn_3 : Reaches minimum state_0 3 (alone 1 (ratio (pos 3) 2) ∷ alone 2 (ratio (pos 1) 2) ∷ alone 3 (whole (pos 2)) ∷ []) state_3
 unfolding after completion_to greatest_flux ratio gcd is_zero_ℚ ◌+ℚ◌ ◌-ℚ◌ ◌*ℚ◌ ◌/ℚ◌ neg_ℚ inverse_ℚ min_ℚ taken given
 turn_3 = happens minimum state_0 2 (alone 1 (ratio (pos 3) 2) ∷ alone 2 (ratio (pos 1) 2) ∷ []) state_2 turn_2 (whole (pos 2)) state_3 refl refl refl
 
-turn_4 : Reaches minimum state_0 4 (alone 1 (ratio (pos 3) 2) ∷ alone 2 (ratio (pos 1) 2) ∷ alone 3 (whole (pos 2)) ∷ []) state_3
+pub turn_4 : Reaches minimum state_0 4 (alone 1 (ratio (pos 3) 2) ∷ alone 2 (ratio (pos 1) 2) ∷ alone 3 (whole (pos 2)) ∷ []) state_3
 unfolding after completion_to greatest_flux ratio gcd is_zero_ℚ ◌+ℚ◌ ◌-ℚ◌ ◌*ℚ◌ ◌/ℚ◌ neg_ℚ inverse_ℚ min_ℚ taken given
 turn_4 = skips minimum state_0 3 (alone 1 (ratio (pos 3) 2) ∷ alone 2 (ratio (pos 1) 2) ∷ alone 3 (whole (pos 2)) ∷ []) state_3 turn_3 refl
 
-turn_5 : Reaches minimum state_0 5 (alone 1 (ratio (pos 3) 2) ∷ alone 2 (ratio (pos 1) 2) ∷ alone 3 (whole (pos 2)) ∷ alone 5 (ratio (pos 3) 2) ∷ []) state_4
+pub turn_5 : Reaches minimum state_0 5 (alone 1 (ratio (pos 3) 2) ∷ alone 2 (ratio (pos 1) 2) ∷ alone 3 (whole (pos 2)) ∷ alone 5 (ratio (pos 3) 2) ∷ []) state_4
 unfolding after completion_to greatest_flux ratio gcd is_zero_ℚ ◌+ℚ◌ ◌-ℚ◌ ◌*ℚ◌ ◌/ℚ◌ neg_ℚ inverse_ℚ min_ℚ taken given
 turn_5 = happens minimum state_0 4 (alone 1 (ratio (pos 3) 2) ∷ alone 2 (ratio (pos 1) 2) ∷ alone 3 (whole (pos 2)) ∷ []) state_3 turn_4 (ratio (pos 3) 2) state_4 refl refl refl
 
-turn_6 : Reaches minimum state_0 6 (alone 1 (ratio (pos 3) 2) ∷ alone 2 (ratio (pos 1) 2) ∷ alone 3 (whole (pos 2)) ∷ alone 5 (ratio (pos 3) 2) ∷ alone 6 (ratio (pos 1) 2) ∷ []) state_5
+pub turn_6 : Reaches minimum state_0 6 (alone 1 (ratio (pos 3) 2) ∷ alone 2 (ratio (pos 1) 2) ∷ alone 3 (whole (pos 2)) ∷ alone 5 (ratio (pos 3) 2) ∷ alone 6 (ratio (pos 1) 2) ∷ []) state_5
 unfolding after completion_to greatest_flux ratio gcd is_zero_ℚ ◌+ℚ◌ ◌-ℚ◌ ◌*ℚ◌ ◌/ℚ◌ neg_ℚ inverse_ℚ min_ℚ taken given
 turn_6 = happens minimum state_0 5 (alone 1 (ratio (pos 3) 2) ∷ alone 2 (ratio (pos 1) 2) ∷ alone 3 (whole (pos 2)) ∷ alone 5 (ratio (pos 3) 2) ∷ []) state_4 turn_5 (ratio (pos 1) 2) state_5 refl refl refl
 
-turn_7 : Reaches minimum state_0 7 (alone 1 (ratio (pos 3) 2) ∷ alone 2 (ratio (pos 1) 2) ∷ alone 3 (whole (pos 2)) ∷ alone 5 (ratio (pos 3) 2) ∷ alone 6 (ratio (pos 1) 2) ∷ alone 7 (whole (pos 2)) ∷ []) state_6
+pub turn_7 : Reaches minimum state_0 7 (alone 1 (ratio (pos 3) 2) ∷ alone 2 (ratio (pos 1) 2) ∷ alone 3 (whole (pos 2)) ∷ alone 5 (ratio (pos 3) 2) ∷ alone 6 (ratio (pos 1) 2) ∷ alone 7 (whole (pos 2)) ∷ []) state_6
 unfolding after completion_to greatest_flux ratio gcd is_zero_ℚ ◌+ℚ◌ ◌-ℚ◌ ◌*ℚ◌ ◌/ℚ◌ neg_ℚ inverse_ℚ min_ℚ taken given
 turn_7 = happens minimum state_0 6 (alone 1 (ratio (pos 3) 2) ∷ alone 2 (ratio (pos 1) 2) ∷ alone 3 (whole (pos 2)) ∷ alone 5 (ratio (pos 3) 2) ∷ alone 6 (ratio (pos 1) 2) ∷ []) state_5 turn_6 (whole (pos 2)) state_6 refl refl refl
 
-turn_8 : Reaches minimum state_0 8 (alone 1 (ratio (pos 3) 2) ∷ alone 2 (ratio (pos 1) 2) ∷ alone 3 (whole (pos 2)) ∷ alone 5 (ratio (pos 3) 2) ∷ alone 6 (ratio (pos 1) 2) ∷ alone 7 (whole (pos 2)) ∷ []) state_6
+pub turn_8 : Reaches minimum state_0 8 (alone 1 (ratio (pos 3) 2) ∷ alone 2 (ratio (pos 1) 2) ∷ alone 3 (whole (pos 2)) ∷ alone 5 (ratio (pos 3) 2) ∷ alone 6 (ratio (pos 1) 2) ∷ alone 7 (whole (pos 2)) ∷ []) state_6
 unfolding after completion_to greatest_flux ratio gcd is_zero_ℚ ◌+ℚ◌ ◌-ℚ◌ ◌*ℚ◌ ◌/ℚ◌ neg_ℚ inverse_ℚ min_ℚ taken given
 turn_8 = skips minimum state_0 7 (alone 1 (ratio (pos 3) 2) ∷ alone 2 (ratio (pos 1) 2) ∷ alone 3 (whole (pos 2)) ∷ alone 5 (ratio (pos 3) 2) ∷ alone 6 (ratio (pos 1) 2) ∷ alone 7 (whole (pos 2)) ∷ []) state_6 turn_7 refl
 
-turn_9 : Reaches minimum state_0 9 (alone 1 (ratio (pos 3) 2) ∷ alone 2 (ratio (pos 1) 2) ∷ alone 3 (whole (pos 2)) ∷ alone 5 (ratio (pos 3) 2) ∷ alone 6 (ratio (pos 1) 2) ∷ alone 7 (whole (pos 2)) ∷ alone 9 (ratio (pos 3) 2) ∷ []) state_7
+pub turn_9 : Reaches minimum state_0 9 (alone 1 (ratio (pos 3) 2) ∷ alone 2 (ratio (pos 1) 2) ∷ alone 3 (whole (pos 2)) ∷ alone 5 (ratio (pos 3) 2) ∷ alone 6 (ratio (pos 1) 2) ∷ alone 7 (whole (pos 2)) ∷ alone 9 (ratio (pos 3) 2) ∷ []) state_7
 unfolding after completion_to greatest_flux ratio gcd is_zero_ℚ ◌+ℚ◌ ◌-ℚ◌ ◌*ℚ◌ ◌/ℚ◌ neg_ℚ inverse_ℚ min_ℚ taken given
 turn_9 = happens minimum state_0 8 (alone 1 (ratio (pos 3) 2) ∷ alone 2 (ratio (pos 1) 2) ∷ alone 3 (whole (pos 2)) ∷ alone 5 (ratio (pos 3) 2) ∷ alone 6 (ratio (pos 1) 2) ∷ alone 7 (whole (pos 2)) ∷ []) state_6 turn_8 (ratio (pos 3) 2) state_7 refl refl refl
 
-turn_10 : Reaches minimum state_0 10 (alone 1 (ratio (pos 3) 2) ∷ alone 2 (ratio (pos 1) 2) ∷ alone 3 (whole (pos 2)) ∷ alone 5 (ratio (pos 3) 2) ∷ alone 6 (ratio (pos 1) 2) ∷ alone 7 (whole (pos 2)) ∷ alone 9 (ratio (pos 3) 2) ∷ []) state_7
+pub turn_10 : Reaches minimum state_0 10 (alone 1 (ratio (pos 3) 2) ∷ alone 2 (ratio (pos 1) 2) ∷ alone 3 (whole (pos 2)) ∷ alone 5 (ratio (pos 3) 2) ∷ alone 6 (ratio (pos 1) 2) ∷ alone 7 (whole (pos 2)) ∷ alone 9 (ratio (pos 3) 2) ∷ []) state_7
 unfolding after completion_to greatest_flux ratio gcd is_zero_ℚ ◌+ℚ◌ ◌-ℚ◌ ◌*ℚ◌ ◌/ℚ◌ neg_ℚ inverse_ℚ min_ℚ taken given
 turn_10 = skips minimum state_0 9 (alone 1 (ratio (pos 3) 2) ∷ alone 2 (ratio (pos 1) 2) ∷ alone 3 (whole (pos 2)) ∷ alone 5 (ratio (pos 3) 2) ∷ alone 6 (ratio (pos 1) 2) ∷ alone 7 (whole (pos 2)) ∷ alone 9 (ratio (pos 3) 2) ∷ []) state_7 turn_9 refl
 
-turn_11 : Reaches minimum state_0 11 (alone 1 (ratio (pos 3) 2) ∷ alone 2 (ratio (pos 1) 2) ∷ alone 3 (whole (pos 2)) ∷ alone 5 (ratio (pos 3) 2) ∷ alone 6 (ratio (pos 1) 2) ∷ alone 7 (whole (pos 2)) ∷ alone 9 (ratio (pos 3) 2) ∷ alone 11 (whole (pos 2)) ∷ []) state_8
+pub turn_11 : Reaches minimum state_0 11 (alone 1 (ratio (pos 3) 2) ∷ alone 2 (ratio (pos 1) 2) ∷ alone 3 (whole (pos 2)) ∷ alone 5 (ratio (pos 3) 2) ∷ alone 6 (ratio (pos 1) 2) ∷ alone 7 (whole (pos 2)) ∷ alone 9 (ratio (pos 3) 2) ∷ alone 11 (whole (pos 2)) ∷ []) state_8
 unfolding after completion_to greatest_flux ratio gcd is_zero_ℚ ◌+ℚ◌ ◌-ℚ◌ ◌*ℚ◌ ◌/ℚ◌ neg_ℚ inverse_ℚ min_ℚ taken given
 turn_11 = happens minimum state_0 10 (alone 1 (ratio (pos 3) 2) ∷ alone 2 (ratio (pos 1) 2) ∷ alone 3 (whole (pos 2)) ∷ alone 5 (ratio (pos 3) 2) ∷ alone 6 (ratio (pos 1) 2) ∷ alone 7 (whole (pos 2)) ∷ alone 9 (ratio (pos 3) 2) ∷ []) state_7 turn_10 (whole (pos 2)) state_8 refl refl refl
 
-turn_12 : Reaches minimum state_0 12 (alone 1 (ratio (pos 3) 2) ∷ alone 2 (ratio (pos 1) 2) ∷ alone 3 (whole (pos 2)) ∷ alone 5 (ratio (pos 3) 2) ∷ alone 6 (ratio (pos 1) 2) ∷ alone 7 (whole (pos 2)) ∷ alone 9 (ratio (pos 3) 2) ∷ alone 11 (whole (pos 2)) ∷ alone 12 (ratio (pos 1) 2) ∷ []) state_9
+pub turn_12 : Reaches minimum state_0 12 (alone 1 (ratio (pos 3) 2) ∷ alone 2 (ratio (pos 1) 2) ∷ alone 3 (whole (pos 2)) ∷ alone 5 (ratio (pos 3) 2) ∷ alone 6 (ratio (pos 1) 2) ∷ alone 7 (whole (pos 2)) ∷ alone 9 (ratio (pos 3) 2) ∷ alone 11 (whole (pos 2)) ∷ alone 12 (ratio (pos 1) 2) ∷ []) state_9
 unfolding after completion_to greatest_flux ratio gcd is_zero_ℚ ◌+ℚ◌ ◌-ℚ◌ ◌*ℚ◌ ◌/ℚ◌ neg_ℚ inverse_ℚ min_ℚ taken given
 turn_12 = happens minimum state_0 11 (alone 1 (ratio (pos 3) 2) ∷ alone 2 (ratio (pos 1) 2) ∷ alone 3 (whole (pos 2)) ∷ alone 5 (ratio (pos 3) 2) ∷ alone 6 (ratio (pos 1) 2) ∷ alone 7 (whole (pos 2)) ∷ alone 9 (ratio (pos 3) 2) ∷ alone 11 (whole (pos 2)) ∷ []) state_8 turn_11 (ratio (pos 1) 2) state_9 refl refl refl
 
-turn_13 : Reaches minimum state_0 13 (alone 1 (ratio (pos 3) 2) ∷ alone 2 (ratio (pos 1) 2) ∷ alone 3 (whole (pos 2)) ∷ alone 5 (ratio (pos 3) 2) ∷ alone 6 (ratio (pos 1) 2) ∷ alone 7 (whole (pos 2)) ∷ alone 9 (ratio (pos 3) 2) ∷ alone 11 (whole (pos 2)) ∷ alone 12 (ratio (pos 1) 2) ∷ alone 13 (ratio (pos 3) 2) ∷ []) state_10
+pub turn_13 : Reaches minimum state_0 13 (alone 1 (ratio (pos 3) 2) ∷ alone 2 (ratio (pos 1) 2) ∷ alone 3 (whole (pos 2)) ∷ alone 5 (ratio (pos 3) 2) ∷ alone 6 (ratio (pos 1) 2) ∷ alone 7 (whole (pos 2)) ∷ alone 9 (ratio (pos 3) 2) ∷ alone 11 (whole (pos 2)) ∷ alone 12 (ratio (pos 1) 2) ∷ alone 13 (ratio (pos 3) 2) ∷ []) state_10
 unfolding after completion_to greatest_flux ratio gcd is_zero_ℚ ◌+ℚ◌ ◌-ℚ◌ ◌*ℚ◌ ◌/ℚ◌ neg_ℚ inverse_ℚ min_ℚ taken given
 turn_13 = happens minimum state_0 12 (alone 1 (ratio (pos 3) 2) ∷ alone 2 (ratio (pos 1) 2) ∷ alone 3 (whole (pos 2)) ∷ alone 5 (ratio (pos 3) 2) ∷ alone 6 (ratio (pos 1) 2) ∷ alone 7 (whole (pos 2)) ∷ alone 9 (ratio (pos 3) 2) ∷ alone 11 (whole (pos 2)) ∷ alone 12 (ratio (pos 1) 2) ∷ []) state_9 turn_12 (ratio (pos 3) 2) state_10 refl refl refl
 
 -- ---- the network
 
 each_reaction : EachReaction 16 minimum.reactions
-each_reaction =
-    (record { some_reactant = omega arith; takes = (omega arith, omega arith, omega arith, tt); gives = (omega arith, omega arith, omega arith, tt) },
-    (record { some_reactant = omega arith; takes = (omega arith, omega arith, omega arith, tt); gives = (omega arith, omega arith, omega arith, tt) },
-    (record { some_reactant = omega arith; takes = (omega arith, omega arith, omega arith, tt); gives = (omega arith, omega arith, omega arith, tt) },
-    (record { some_reactant = omega arith; takes = (omega arith, omega arith, omega arith, tt); gives = (omega arith, omega arith, omega arith, tt) },
-    (record { some_reactant = omega arith; takes = (omega arith, omega arith, omega arith, tt); gives = (omega arith, omega arith, omega arith, tt) },
-    (record { some_reactant = omega arith; takes = (omega arith, omega arith, omega arith, tt); gives = (omega arith, omega arith, omega arith, tt) },
-    (record { some_reactant = omega arith; takes = (omega arith, omega arith, omega arith, tt); gives = (omega arith, omega arith, omega arith, tt) },
-    (record { some_reactant = omega arith; takes = (omega arith, omega arith, omega arith, tt); gives = (omega arith, omega arith, omega arith, tt) },
-    (record { some_reactant = omega arith; takes = (omega arith, omega arith, omega arith, tt); gives = (omega arith, omega arith, omega arith, tt) },
-    (record { some_reactant = omega arith; takes = (omega arith, omega arith, omega arith, tt); gives = (omega arith, omega arith, omega arith, (omega arith, omega arith, omega arith, tt)) },
-    (record { some_reactant = omega arith; takes = (omega arith, omega arith, omega arith, tt); gives = (omega arith, omega arith, omega arith, tt) },
-    (record { some_reactant = omega arith; takes = (omega arith, omega arith, omega arith, tt); gives = (omega arith, omega arith, omega arith, (omega arith, omega arith, omega arith, tt)) },
-    (record { some_reactant = omega arith; takes = (omega arith, omega arith, omega arith, (omega arith, omega arith, omega arith, tt)); gives = (omega arith, omega arith, omega arith, tt) },
-    tt)))))))))))))
+each_reaction = (
+  record { some_reactant = omega arith; takes = (omega arith, omega arith, omega arith, tt); gives = (omega arith, omega arith, omega arith, tt) },
+  (
+    record { some_reactant = omega arith; takes = (omega arith, omega arith, omega arith, tt); gives = (omega arith, omega arith, omega arith, tt) },
+    (
+      record { some_reactant = omega arith; takes = (omega arith, omega arith, omega arith, tt); gives = (omega arith, omega arith, omega arith, tt) },
+      (
+        record { some_reactant = omega arith; takes = (omega arith, omega arith, omega arith, tt); gives = (omega arith, omega arith, omega arith, tt) },
+        (
+          record { some_reactant = omega arith; takes = (omega arith, omega arith, omega arith, tt); gives = (omega arith, omega arith, omega arith, tt) },
+          (
+            record { some_reactant = omega arith; takes = (omega arith, omega arith, omega arith, tt); gives = (omega arith, omega arith, omega arith, tt) },
+            (
+              record { some_reactant = omega arith; takes = (omega arith, omega arith, omega arith, tt); gives = (omega arith, omega arith, omega arith, tt) },
+              (
+                record { some_reactant = omega arith; takes = (omega arith, omega arith, omega arith, tt); gives = (omega arith, omega arith, omega arith, tt) },
+                (
+                  record { some_reactant = omega arith; takes = (omega arith, omega arith, omega arith, tt); gives = (omega arith, omega arith, omega arith, tt) },
+                  (
+                    record { some_reactant = omega arith; takes = (omega arith, omega arith, omega arith, tt); gives = (omega arith, omega arith, omega arith, (omega arith, omega arith, omega arith, tt)) },
+                    (
+                      record { some_reactant = omega arith; takes = (omega arith, omega arith, omega arith, tt); gives = (omega arith, omega arith, omega arith, tt) },
+                      (
+                        record { some_reactant = omega arith; takes = (omega arith, omega arith, omega arith, tt); gives = (omega arith, omega arith, omega arith, (omega arith, omega arith, omega arith, tt)) },
+                        (
+                          record { some_reactant = omega arith; takes = (omega arith, omega arith, omega arith, (omega arith, omega arith, omega arith, tt)); gives = (omega arith, omega arith, omega arith, tt) },
+                          tt,
+                        ),
+                      ),
+                    ),
+                  ),
+                ),
+              ),
+            ),
+          ),
+        ),
+      ),
+    ),
+  ),
+)
 
 pub minimum_is_network : IsNetwork minimum
 minimum_is_network = record {
@@ -137,7 +161,7 @@ minimum_feeds_forward = feed_forward minimum along
     along : FeedsForward minimum.reactions
     along = ((refl, tt), ((refl, refl), tt), ((refl, tt), ((refl, refl), tt), ((refl, tt), ((refl, refl), tt), ((refl, tt), ((refl, refl), tt), ((refl, tt), ((refl, refl), tt), ((refl, tt), ((refl, refl), tt), ((refl, tt), ((refl, refl), tt), ((refl, tt), ((refl, refl), tt), ((refl, tt), ((refl, refl), tt), ((refl, tt), ((refl, refl), tt), ((refl, tt), ((refl, refl), tt), ((refl, tt), ((refl, refl), tt), ((refl, (refl, tt)), ((refl, refl), ((refl, refl), tt)), tt)))))))))))))
 
-starts : start minimum amounts ≡ state_0
+pub starts : start minimum amounts ≡ state_0
 unfolding start
 starts = refl
 

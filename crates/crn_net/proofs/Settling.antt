@@ -1,20 +1,19 @@
 -- Confluence of feed-forward networks, and what settles.
-use Rattle.std.proofs.Common.{◌≡◌, ℕ, suc, ◌≤◌, List, [], ◌∷◌, length, sym, ◌∙◌, ap, ap₂, subst, ⊎_elim, arith, le_refl, ext_get_or}
-use Rattle.std.proofs.lemmas.List.FromFn.{length-map-range_with_len}
+use Rattle.std.proofs.Common.{◌≡◌, ℕ, ◌≤◌, List, [], ◌∷◌, length, sym, ◌∙◌, ap, ap₂, subst, le_refl}
 use Rattle.std.specs.Prelude.{pos}
-use Rattle.crn_fraction.proofs.Linear.{not_<ℚ, ≤ℚ_trans, +ℚ-≤ℚ_left}
-use Rattle.crn_fraction.proofs.Order.{≤ℚ_or_<ℚ, ≤ℚ_refl, ≤ℚ_antisymm}
+use Rattle.crn_fraction.proofs.Linear.{≤ℚ_trans, +ℚ-≤ℚ_left}
+use Rattle.crn_fraction.proofs.Order.{≤ℚ_refl}
 use Rattle.crn_fraction.proofs.Products.{≤ℚ_of_whole-*ℚ}
-use Rattle.crn_fraction.proofs.Ring.{+ℚ-zero, *ℚ-zero, +ℚ_cancel_right}
-use Rattle.crn_fraction.specs.Rational.{ℚ, 0ℚ, ◌+ℚ◌, ◌-ℚ◌, ◌*ℚ◌, ◌≤ℚ◌, ◌<ℚ◌, whole}
-use Rattle.crn_net.proofs.Balance.{flux_not_negative, flux_outside, after-leads, leads_on, all_lead}
+use Rattle.crn_fraction.proofs.Ring.{+ℚ-zero, +ℚ_cancel_right}
+use Rattle.crn_fraction.specs.Rational.{ℚ, 0ℚ, ◌+ℚ◌, ◌-ℚ◌, ◌*ℚ◌, ◌≤ℚ◌, whole}
+use Rattle.crn_net.proofs.Balance.{flux_not_negative, leads_on, all_lead}
 use Rattle.crn_net.proofs.Completion.{run_end, run_not_negative, completion_runs, completion_exhausts}
 use Rattle.crn_net.proofs.Exhausted.{SameAmounts, stays, length-after_all, same_states}
 use Rattle.crn_net.proofs.Made.{flux_is}
-use Rattle.crn_net.proofs.Sums.{sum_cong, sum_none}
-use Rattle.crn_net.proofs.Taken.{taken_in_range, greatest_flux_fits, greatest_flux_uses}
-use Rattle.crn_net.specs.Network.{Network, Flow, Ends, Pair, One, amount, sum_to, flux_of, taken, given, after, after_all, IsLegal, Run, value_at, output, greatest_flux, completion, completed, start, IsFeedForward, IsNotNegative, AreReactions, IsNetwork, IsState, IsEnds, Rails, Dual, Direct, StablyComputes}
-use Rattle.crn_net.specs.Totals.{total, LacksReactant, IsExhausted, IsConfluent, taken_by, given_by, Leads, IsGreatest, IsComplete}
+use Rattle.crn_net.proofs.Sums.{sum_cong}
+use Rattle.crn_net.proofs.Taken.{greatest_flux_fits, greatest_flux_uses}
+use Rattle.crn_net.specs.Network.{Network, Flow, Ends, Pair, One, amount, flux_of, taken, given, after, Run, value_at, output, greatest_flux, completion, completed, start, IsFeedForward, IsNotNegative, AreReactions, IsNetwork, IsState, IsEnds, Rails, Dual, Direct, StablyComputes}
+use Rattle.crn_net.specs.Totals.{total, IsConfluent, taken_by, given_by, Leads, IsGreatest, IsComplete}
 
 pub same_output : (net : Network) (c d : List ℚ) → IsEnds net.rails net.species net.output → SameAmounts net c d → output net c ≡ output net d
 same_output net c d ok h = go net.rails net.output ok

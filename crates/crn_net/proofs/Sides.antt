@@ -1,12 +1,16 @@
 -- The test of a side, part by part.
-use Rattle.std.proofs.Common.{◌≡◌, ℕ, ◌+◌, ◌<◌, ◌≤◌, List, [], ◌∷◌, map, length, get_or, drop, refl, sym, ◌∙◌, ap, subst, arith}
-use Rattle.std.proofs.lemmas.List.{drop_more, drop_all, get_or_default}
+use Rattle.std.proofs.Common.{◌≡◌, ℕ, ◌+◌, ◌<◌, ◌≤◌, List, ◌∷◌, length, get_or, drop, sym, subst, arith}
+use Rattle.std.proofs.lemmas.List.{drop_more, drop_all}
 use Rattle.std.proofs.lemmas.Int.{ints}
 use Rattle.std.specs.Prelude.{ℤ, pos, negsuc, ◌≤ℤ◌}
 use Rattle.crn_net.specs.Network.{AreParts}
 use Rattle.crn_net.specs.Views.{natural, part_of, parts_of}
 use Rattle.crn_net.specs.declared.Part.{Part}
-use Rattle.crn_net.specs.Sides.{RestIsSide}
+
+-- what is left after i parts, the last of species `low`, is well formed where all are
+pub record RestIsSide (n : ℕ) (ps : List Part) (i low : ℕ) : Type 0 where
+  pub down : AreParts 0 n (parts_of ps) → AreParts low n (parts_of (drop i ps))
+  pub up : AreParts low n (parts_of (drop i ps)) → AreParts 0 n (parts_of ps)
 
 abbrev pub read : List Part → ℕ → Part
 read ps i = get_or ps i (record { species = 0; count = pos 0 })

@@ -7,7 +7,7 @@ use Rattle.std.proofs.lemmas.List.{get_or_past}
 use Rattle.crn_fraction.proofs.Order.{≤ℚ_refl}
 use Rattle.crn_fraction.proofs.Products.{whole_nonneg}
 use Rattle.crn_fraction.specs.Rational.{ℚ, 0ℚ, ◌≤ℚ◌, whole}
-use Rattle.crn_net.specs.Network.{Network, amount, given_to, or_context, input_species, start, IsApart, IsNotNegative, AreNotNegative}
+use Rattle.crn_net.specs.Network.{Network, IsContext, IsNetwork, IsState, amount, given_to, or_context, input_species, start, IsNotNegative, AreNotNegative}
 
 -- ---- a choice by equal numbers
 
@@ -71,3 +71,17 @@ start_not_negative net xs h (suc i) =
     ⊎_elim (λ (l : i < net.species). subst (λ x. 0ℚ ≤ℚ x) (sym (amount-start net xs (suc i) (omega arith) (omega arith))) (or_context_not_negative net.context (suc i) _ (given_to_not_negative _ xs (suc i) h)))
     (λ (l : net.species ≤ i). subst (λ x. 0ℚ ≤ℚ x) (sym (amount-start-past net xs (suc i) (omega arith))) (≤ℚ_refl 0ℚ))
     (grind arith)
+
+-- ---- a start is a state
+
+pub start_is_state : (net : Network) (xs : List ℚ) → AreNotNegative xs → IsState net (start net xs)
+unfolding start
+start_is_state net xs h = record {
+  long = length-map-range_with_len (start_amount net xs) 1 net.species;
+  not_negative = start_not_negative net xs h;
+}
+
+pub context_amount : (net : Network) → IsNetwork net → (xs : List ℚ) (k : ℕ) → net.context ≡ Some k → amount (start net xs) k ≡ whole (pos 1)
+context_amount net ok xs k is =
+    let in_range : IsContext net.species net.inputs (Some k) = subst (IsContext net.species net.inputs) is ok.context in
+    amount-context net xs k is in_range.0 in_range.1

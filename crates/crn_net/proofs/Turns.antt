@@ -1,5 +1,5 @@
 -- A completion turn by turn, over amounts that are written out.
-use Rattle.std.proofs.Common.{◌≡◌, ℕ, suc, Bool, true, false, IsTrue, List, [], ◌∷◌, ◌++◌, ◌==◌, if◌then◌else◌, refl, sym, ◌∙◌, ap, ap₂, subst, eqb-true}
+use Rattle.std.proofs.Common.{◌≡◌, ℕ, suc, Bool, true, false, List, [], ◌∷◌, ◌++◌, ◌==◌, if◌then◌else◌, refl, ◌∙◌, ap, ap₂, subst, eqb-true}
 use Rattle.std.specs.Prelude.{ℤ, pos, negsuc, ◌&&◌}
 use Rattle.std.proofs.lemmas.List.{append-nil}
 use Rattle.crn_fraction.specs.Parts.{same_parts}

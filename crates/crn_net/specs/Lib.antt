@@ -6,4 +6,3 @@ pub mod Limits
 pub mod Causes
 pub mod Minimum
 pub mod Inputs
-pub mod Sides

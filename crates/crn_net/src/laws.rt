@@ -1,10 +1,26 @@
 //! What holds of every network. Each function here does nothing: its contract is a theorem about the definitions of `specs/Network.antt`, proved with the crate.
-ghost use Rattle.std.specs.Prelude.{◌≡◌, ◌++◌, ◌≤◌, ℕ, List, length, pos};
+ghost use Rattle.std.specs.Prelude.{◌≡◌, ◌≢◌, ◌++◌, ◌≤◌, ℕ, List, length, pos, Some};
 ghost use Rattle.crn_fraction.specs.Rational.{ℚ, whole};
 ghost use Rattle.crn_net.specs.Network.{Network, Reaction, Flow, completion, output, AreReactions, IsNetwork, IsState, IsNotNegative, IsFeedForward, AreFlows, AreNotNegative, Run, IsSettled, StablyComputes, amount, after, after_all, start, value_at, greatest_flux};
 ghost use Rattle.crn_net.specs.Totals.{Leads, total, IsGreatest, IsComplete, IsConfluent, IsExhausted, FirstLack, AreUntaken, made_by, made_in, added, change};
 ghost use Rattle.crn_net.specs.Reactions.{FeedsForward, given_all};
+ghost use Rattle.crn_net.specs.Limits.{IsValid};
+ghost use Rattle.crn_net.specs.Causes.{IsCause};
+ghost use Rattle.crn_net.specs.declared.NetworkError.{NetworkError};
+ghost use Rattle.crn_net.specs.declared.NetworkError.TheVariants.{Memory};
 ghost use Rattle.crn_net.specs.Minimum.{minimum, amounts, segments};
+
+/// Parts have at most one cause of refusal, and valid parts have none; only want of memory may come at any time.
+pub fn causes_exclude_each_other()
+    ensures one { (net : Network) (e f : NetworkError) → e ≢ Memory → f ≢ Memory → IsCause net e → IsCause net f → e ≡ f }
+    ensures none { (net : Network) (e : NetworkError) → e ≢ Memory → IsCause net e → IsValid net → ⊥ }
+{}
+
+/// A start is a state, and its context species has the amount 1.
+pub fn starts()
+    ensures state { (net : Network) (xs : List ℚ) → AreNotNegative xs → IsState net (start net xs) }
+    ensures context { (net : Network) → IsNetwork net → (xs : List ℚ) (k : ℕ) → net.context ≡ Some k → amount (start net xs) k ≡ whole (pos 1) }
+{}
 
 /// Kept totals: of each species, what is there after segments and what they took is what was there before and what they gave.
 pub fn kept_totals()

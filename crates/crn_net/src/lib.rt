@@ -4,11 +4,12 @@
 //! segments, runs, completion, stable computation) is defined in `specs/Network.antt`, and `laws` has what holds of every network.
 #![tactic(auto)]
 
-ghost use Rattle.std.specs.Prelude.{◌≡◌, ◌≤◌, length, MatchResult};
+ghost use Rattle.std.specs.Prelude.{◌≡◌, ◌≤◌, length, IfOk, IfErr};
 ghost use Rattle.crn_net.specs.Network.{IsNetwork, IsReaction, numbered};
 ghost use Rattle.crn_net.specs.Views.{network_of, reaction_of};
 ghost use Rattle.crn_net.specs.Limits.{IsWithinLimits, IsValid};
 ghost use Rattle.crn_net.specs.Causes.{IsCause};
+ghost use Rattle.crn_net.specs.declared.NetworkError.TheVariants.{Memory};
 
 use crn_fraction::Frac;
 use std::alloc::Global;
@@ -107,8 +108,10 @@ impl Model for Network {
 
 impl Network {
     /// The network of these parts, or their first fault. The parts are dropped on a refusal.
-    pub fn make(_alloc: Global, parts: Parts) -> Result<Network, NetworkError>
-        ensures { MatchResult result (λ n. (n ≡ network_of parts) × IsValid (network_of parts)) (IsCause (network_of parts)) }
+    pub fn make(alloc: Global, parts: Parts) -> Result<Network, NetworkError>
+        ensures made { IfOk result (λ n. (n ≡ network_of parts) × IsValid (network_of parts)) }
+        ensures refused { IfErr result (IsCause (network_of parts)) }
+        ensures valid { IsValid (network_of parts) → IfErr result (λ e. e ≡ Memory) }
     {
         checks::check(&parts)?;
         Ok(Network { parts })

@@ -15,7 +15,17 @@ fn into(alloc: Global, from: u32, to: u32) -> Result<Reaction, Fail> {
 /// The parts of the network of the minimum of two variables.
 fn minimum(alloc: Global) -> Result<Parts, Fail> {
     let mut reactions = Vec::new(alloc);
-    for (from, to) in [(1, 5), (2, 6), (3, 7), (4, 8), (5, 9), (6, 10), (7, 11), (8, 12), (9, 13)] {
+    for (from, to) in [
+        (1, 5),
+        (2, 6),
+        (3, 7),
+        (4, 8),
+        (5, 9),
+        (6, 10),
+        (7, 11),
+        (8, 12),
+        (9, 13),
+    ] {
         reactions.push(into(alloc, from, to)?)?;
     }
     reactions.push(Reaction {
@@ -115,22 +125,43 @@ fn with_fault(alloc: Global, fault: Fault) -> Result<Parts, Fail> {
 fn each_fault_is_named(rt: HostRuntime) -> Result<(), Fail> {
     for (number, (fault, want)) in [
         (Fault::Species(0), NetworkError::Species { count: 0 }),
-        (Fault::Species(65_537), NetworkError::Species { count: 65_537 }),
+        (
+            Fault::Species(65_537),
+            NetworkError::Species { count: 65_537 },
+        ),
         (Fault::Species(1), NetworkError::Output),
         (Fault::Inputs(0), NetworkError::Inputs { count: 0 }),
         (Fault::Inputs(9), NetworkError::Inputs { count: 9 }),
         (Fault::Input(Ends::One(1)), NetworkError::Input { index: 2 }),
         (Fault::Input(Ends::One(3)), NetworkError::Input { index: 2 }),
-        (Fault::Input(Ends::Pair(1, 2)), NetworkError::Input { index: 2 }),
+        (
+            Fault::Input(Ends::Pair(1, 2)),
+            NetworkError::Input { index: 2 },
+        ),
         (Fault::Output(Ends::Pair(1, 2)), NetworkError::Output),
         (Fault::Output(Ends::One(0)), NetworkError::Output),
         (Fault::Context(1), NetworkError::Context),
         (Fault::Context(3), NetworkError::Context),
-        (Fault::Takes(one(2), one(1)), NetworkError::Reaction { index: 2 }),
-        (Fault::Takes(one(2), one(2)), NetworkError::Reaction { index: 2 }),
-        (Fault::Takes(one(2), one(3)), NetworkError::Reaction { index: 2 }),
         (
-            Fault::Takes(one(1), Part { species: 2, count: 0 }),
+            Fault::Takes(one(2), one(1)),
+            NetworkError::Reaction { index: 2 },
+        ),
+        (
+            Fault::Takes(one(2), one(2)),
+            NetworkError::Reaction { index: 2 },
+        ),
+        (
+            Fault::Takes(one(2), one(3)),
+            NetworkError::Reaction { index: 2 },
+        ),
+        (
+            Fault::Takes(
+                one(1),
+                Part {
+                    species: 2,
+                    count: 0,
+                },
+            ),
             NetworkError::Reaction { index: 2 },
         ),
     ]
@@ -161,6 +192,9 @@ fn too_many_reactions(rt: HostRuntime) -> Result<(), Fail> {
 #[test]
 fn an_error_says_why(rt: HostRuntime) -> Result<(), Fail> {
     let text = NetworkError::Input { index: 2 }.to_string(rt.alloc())?;
-    assert_eq!(rt; text.as_str(), "input 2 is of the wrong sort, out of range, or names a species again");
+    assert_eq!(rt;
+        text.as_str(),
+        "input 2 is of the wrong sort, out of range, or names a species again"
+    );
     Ok(())
 }

@@ -1,5 +1,5 @@
 -- When the numbers of a step and of a completion fit, that is, when a `Frac` holds each of them.
-use Rattle.std.specs.Prelude.{ℕ, zero, suc, ◌<◌, ◌≤◌, ◌||◌, Bool, nat_lt, List, [], ◌∷◌, filter, length, pos}
+use Rattle.std.specs.Prelude.{ℕ, suc, ◌<◌, ◌≤◌, ◌||◌, Bool, nat_lt, List, [], ◌∷◌, filter, length, pos}
 use Rattle.crn_fraction.specs.Rational.{ℚ, ◌+ℚ◌, ◌*ℚ◌, ◌/ℚ◌, whole}
 use Rattle.crn_fraction.specs.Frac.{IsFrac}
 use Rattle.crn_net.specs.declared.Flow.{Flow}

@@ -12,6 +12,8 @@ pub use crn_net::Flow;
 use std::alloc::{AllocError, Global};
 use std::marker::Model;
 
+pub mod laws;
+
 /// A nonnegative amount of each species. Species are numbered from 1.
 #[derive(Debug, Drop)]
 pub struct State {

@@ -1,4 +1,4 @@
-use Rattle.std.proofs.Common.{◌≡◌, ℕ, ◌+◌, ◌∙◌, ◌<◌, ◌≤◌, length, sym, subst, below_more, arith, refl}
+use Rattle.std.proofs.Common.{◌≡◌, ◌+◌, ◌∙◌, ◌≤◌, length, sym, subst, below_more, arith}
 use Rattle.std.proofs.lemmas.List.{length-map}
 use Rattle.crn_net.specs.Network.{IsReaction, numbered}
 use Rattle.crn_net.specs.Views.{reaction_of, reactions_of}

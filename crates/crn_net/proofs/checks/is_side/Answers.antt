@@ -1,4 +1,4 @@
-use Rattle.std.proofs.Common.{◌≡◌, ◌<◌, ◌≤◌, arith, refl}
+use Rattle.std.proofs.Common.{arith, refl}
 use Rattle.std.proofs.lemmas.Int.{ints}
 use Rattle.std.specs.Prelude.{pos, ◌≤ℤ◌}
 use Rattle.crn_net.specs.Network.{AreParts}
@@ -19,12 +19,12 @@ loop-part-preserved c =
 stopped : (c : Joined-then-part-last) → AreParts 0 c.args.species (parts_of c.args.parts.now) → ⊥
 stopped c k =
     elim c.then-part-last.branch [
-      then-part-last-via-then-part-last w ↦
-        side_stops c.args.species c.args.parts.now c.loop-part.part-index c.loop-part.last c.loop-part-test.true (λ a b d. omega (arith, w.if-part-last.true, a)) c.loop-part.invariant k
-    | then-part-last-via-else-part-last+then-part-species w ↦
-        side_stops c.args.species c.args.parts.now c.loop-part.part-index c.loop-part.last c.loop-part-test.true (λ a b d. omega (arith, w.if-part-species.true, b)) c.loop-part.invariant k
-    | then-part-last-via-else-part-last+else-part-species+then-part-lt1 w ↦
-        side_stops c.args.species c.args.parts.now c.loop-part.part-index c.loop-part.last c.loop-part-test.true
+      | then-part-last-via-then-part-last w ↦
+          side_stops c.args.species c.args.parts.now c.loop-part.part-index c.loop-part.last c.loop-part-test.true (λ a b d. omega (arith, w.if-part-last.true, a)) c.loop-part.invariant k
+      | then-part-last-via-else-part-last+then-part-species w ↦
+          side_stops c.args.species c.args.parts.now c.loop-part.part-index c.loop-part.last c.loop-part-test.true (λ a b d. omega (arith, w.if-part-species.true, b)) c.loop-part.invariant k
+      | then-part-last-via-else-part-last+else-part-species+then-part-lt1 w ↦
+          side_stops c.args.species c.args.parts.now c.loop-part.part-index c.loop-part.last c.loop-part-test.true
           (λ a b d. let some = positive_natural (read c.args.parts.now c.loop-part.part-index).count d in omega (arith, ints, w.if-part-lt1.true, some)) c.loop-part.invariant k
     ]
 

@@ -1,4 +1,4 @@
-use Rattle.crn_net.specs.Sides.{RestIsSide}
+use Rattle.crn_net.proofs.Sides.{RestIsSide}
 use Rattle.crn_net.proofs.checks.is_side.Given as goal
 
 abbrev pub invariant-loop-part : goal.invariant-loop-part
