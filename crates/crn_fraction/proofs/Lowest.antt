@@ -1,6 +1,6 @@
 -- Sums and products that stand in lowest terms as they are computed.
-use Rattle.std.proofs.Common.{◌≡◌, ◌⊎◌, inl, inr, ⊎_elim, ℕ, zero, suc, ◌+◌, ◌*◌, ◌/◌, ◌<◌, ◌≤◌, List, [], ◌∷◌, refl, sym, ap, ap₂, ◌∙◌, subst, arith}
-use Rattle.std.specs.Prelude.{ℤ, pos, neg_ℤ, ◌+ℤ◌, ◌*ℤ◌, unsigned_abs, int_div}
+use Rattle.std.proofs.Common.{◌≡◌, ◌⊎◌, inl, inr, ⊎_elim, ℕ, zero, suc, ◌+◌, ◌*◌, ◌/◌, ◌<◌, ◌≤◌, [], ◌∷◌, refl, sym, ap, ap₂, ◌∙◌, subst, arith}
+use Rattle.std.specs.Prelude.{ℤ, pos, ◌+ℤ◌, ◌*ℤ◌, unsigned_abs}
 use Rattle.std.specs.Int.{◌∣◌}
 use Rattle.std.proofs.Math.IntN.{+ℤ_comm}
 use Rattle.std.proofs.lemmas.Bool.{cases_eq}
@@ -35,6 +35,7 @@ IsCoprime-mul_right a m n c e = record {
       e.only_one k h (dvd_other k m n apart l);
 }
 
+-- and on the other side
 pub IsCoprime-mul_left : (m n b : ℕ) → IsCoprime m b → IsCoprime n b → IsCoprime (m * n) b
 IsCoprime-mul_left m n b c e = IsCoprime-swap b (m * n) (IsCoprime-mul_right b m n (IsCoprime-swap m b c) (IsCoprime-swap n b e))
 
@@ -42,12 +43,14 @@ IsCoprime-mul_left m n b c e = IsCoprime-swap b (m * n) (IsCoprime-mul_right b m
 num_size : (n : ℤ) (d : ℕ) → 0 < d → unsigned_abs (ratio n d).num ≡ unsigned_abs n / gcd (unsigned_abs n) d
 num_size n d p = ap unsigned_abs (num-ratio n d p) ∙ unsigned_abs-int_div n (gcd (unsigned_abs n) d)
 
+-- the numerator of a ratio divides what it came from
 pub num-divides : (n : ℤ) (d : ℕ) → 0 < d → unsigned_abs (ratio n d).num ∣ unsigned_abs n
 num-divides n d p =
     let g = gcd (unsigned_abs n) d in
     subst (λ m. m ∣ unsigned_abs n) (sym (num_size n d p))
     (subst (λ m. (unsigned_abs n / g) ∣ m) (left-over_gcd (unsigned_abs n) d) (dvd-mul_right (unsigned_abs n / g) g))
 
+-- and so does the denominator
 pub den-divides : (n : ℤ) (d : ℕ) → 0 < d → (ratio n d).den ∣ d
 den-divides n d p =
     let g = gcd (unsigned_abs n) d in
@@ -62,6 +65,7 @@ pub num-shrinks : (n : ℤ) (d : ℕ) → 0 < d → unsigned_abs (ratio n d).num
 num-shrinks n d p =
     rw (num_size n d p) (shrinks (unsigned_abs n) (gcd (unsigned_abs n) d) _ (left-over_gcd (unsigned_abs n) d) (gcd-pos (unsigned_abs n) d p))
 
+-- and the denominator is no greater
 pub den-shrinks : (n : ℤ) (d : ℕ) → 0 < d → (ratio n d).den ≤ d
 den-shrinks n d p = le_of_dvd p (den-divides n d p)
 
@@ -70,12 +74,7 @@ one_times e = omega arith
 
 -- ---- products: each numerator first loses what it has in common with the other denominator
 module _ (a b : ℚ) where
-
-
-
-
-
-
+  -- the products of the parts that are left are in lowest terms
   pub product_lowest : IsLowest ((ratio a.num b.den).num *ℤ (ratio b.num a.den).num) ((ratio a.num b.den).den * (ratio b.num a.den).den)
   product_lowest =
       let p = ratio a.num b.den in
@@ -87,11 +86,12 @@ module _ (a b : ℚ) where
       record {
         positive = times_pos p.den q.den p.lowest.positive q.lowest.positive;
         coprime = rw (unsigned_abs-mul p.num q.num)
-          (IsCoprime-mul_left (unsigned_abs p.num) (unsigned_abs q.num) (p.den * q.den)
+            (IsCoprime-mul_left (unsigned_abs p.num) (unsigned_abs q.num) (p.den * q.den)
             (IsCoprime-mul_right (unsigned_abs p.num) p.den q.den p.lowest.coprime (IsCoprime-divisors _ _ _ _ x v a.lowest.coprime))
             (IsCoprime-mul_right (unsigned_abs q.num) p.den q.den (IsCoprime-divisors _ _ _ _ y u b.lowest.coprime) q.lowest.coprime));
       }
 
+  -- and they are those of the product
   pub product_crossed : ratio ((ratio a.num b.den).num *ℤ (ratio b.num a.den).num) ((ratio a.num b.den).den * (ratio b.num a.den).den) ≡ a *ℚ b
   unfolding ◌*ℚ◌
   product_crossed =
@@ -107,7 +107,7 @@ size_cases : (x y : ℤ) → (unsigned_abs (x +ℤ y) ≡ unsigned_abs x + unsig
     ⊎ ((unsigned_abs x ≡ unsigned_abs (x +ℤ y) + unsigned_abs y) ⊎ (unsigned_abs y ≡ unsigned_abs (x +ℤ y) + unsigned_abs x))
 size_cases x y =
     ⊎_elim (λ h. inl h) (λ no. ⊎_elim (λ h. inr (inl h)) (λ nor. inr (inr (omega (arith, ints))))
-      (cases_eq (unsigned_abs x) (unsigned_abs (x +ℤ y) + unsigned_abs y)))
+    (cases_eq (unsigned_abs x) (unsigned_abs (x +ℤ y) + unsigned_abs y)))
     (cases_eq (unsigned_abs (x +ℤ y)) (unsigned_abs x + unsigned_abs y))
 
 -- a divisor of a sum and of its second term divides the first
@@ -135,34 +135,35 @@ module _ (a b : ℚ) (g u v : ℕ) (t : ℤ) (p : 0 < g) (e : u * g ≡ a.den) (
   part_positive zero n h l = absurd (omega (arith, h))
   part_positive (suc m) n h l = omega arith
 
+  -- what is left of the sum is in lowest terms
   pub sum_lowest : IsLowest (ratio t g).num (u * (v * (ratio t g).den))
   sum_lowest =
       let q = ratio t g in
       let size = unsigned_abs q.num in
       let x : size ∣ unsigned_abs (a.num *ℤ pos v +ℤ b.num *ℤ pos u) = subst (λ z. size ∣ unsigned_abs z) s (num-divides t g p) in
       let left : IsCoprime (unsigned_abs a.num) u =
-          IsCoprime-divisors (unsigned_abs a.num) a.den (unsigned_abs a.num) u (dvd_refl (unsigned_abs a.num)) (subst (λ n. u ∣ n) e (dvd-mul_right u g)) a.lowest.coprime in
+      IsCoprime-divisors (unsigned_abs a.num) a.den (unsigned_abs a.num) u (dvd_refl (unsigned_abs a.num)) (subst (λ n. u ∣ n) e (dvd-mul_right u g)) a.lowest.coprime in
       let right : IsCoprime (unsigned_abs b.num) v =
-          IsCoprime-divisors (unsigned_abs b.num) b.den (unsigned_abs b.num) v (dvd_refl (unsigned_abs b.num)) (subst (λ n. v ∣ n) f (dvd-mul_right v g)) b.lowest.coprime in
+      IsCoprime-divisors (unsigned_abs b.num) b.den (unsigned_abs b.num) v (dvd_refl (unsigned_abs b.num)) (subst (λ n. v ∣ n) f (dvd-mul_right v g)) b.lowest.coprime in
       let pu = part_positive u a.den e a.lowest.positive in
       let pv = part_positive v b.den f b.lowest.positive in
       record {
         positive = times_pos u (v * q.den) pu (times_pos v q.den pv q.lowest.positive);
         coprime = IsCoprime-mul_right size u (v * q.den) (apart_left a.num b.num u v size c left x)
-          (IsCoprime-mul_right size v q.den (apart_right a.num b.num u v size c right x) q.lowest.coprime);
+            (IsCoprime-mul_right size v q.den (apart_right a.num b.num u v size c right x) q.lowest.coprime);
       }
 
   cross_sums : (n : ℤ) (d : ℕ) → n *ℤ pos g ≡ t *ℤ pos d
       → n *ℤ pos (a.den * b.den) ≡ (a.num *ℤ pos b.den +ℤ b.num *ℤ pos a.den) *ℤ pos (u * (v * d))
   cross_sums n d h =
-      let env : List ℤ = n ∷ t ∷ a.num ∷ b.num ∷ pos g ∷ pos u ∷ pos v ∷ pos d ∷ [] in
       let one : n *ℤ ((pos u *ℤ pos g) *ℤ (pos v *ℤ pos g)) ≡ (n *ℤ pos g) *ℤ (pos u *ℤ pos v *ℤ pos g) =
-          ring_ℤ env (search z-writes depth 20) (search z-writes depth 20) refl in
+      ring_ℤ (n ∷ t ∷ a.num ∷ b.num ∷ pos g ∷ pos u ∷ pos v ∷ pos d ∷ []) (search z-writes depth 20) (search z-writes depth 20) refl in
       let two : ((a.num *ℤ pos v +ℤ b.num *ℤ pos u) *ℤ pos d) *ℤ (pos u *ℤ pos v *ℤ pos g)
-          ≡ (a.num *ℤ (pos v *ℤ pos g) +ℤ b.num *ℤ (pos u *ℤ pos g)) *ℤ (pos u *ℤ (pos v *ℤ pos d)) =
-          ring_ℤ env (search z-writes depth 20) (search z-writes depth 20) refl in
+      ≡ (a.num *ℤ (pos v *ℤ pos g) +ℤ b.num *ℤ (pos u *ℤ pos g)) *ℤ (pos u *ℤ (pos v *ℤ pos d)) =
+      ring_ℤ (n ∷ t ∷ a.num ∷ b.num ∷ pos g ∷ pos u ∷ pos v ∷ pos d ∷ []) (search z-writes depth 20) (search z-writes depth 20) refl in
       rw (← e, ← f) (one ∙ ap (λ z. z *ℤ (pos u *ℤ pos v *ℤ pos g)) (h ∙ ap (λ z. z *ℤ pos d) s) ∙ two)
 
+  -- and it is the sum
   pub sum_shared : ratio (ratio t g).num (u * (v * (ratio t g).den)) ≡ a +ℚ b
   unfolding ◌+ℚ◌
   sum_shared =
@@ -176,14 +177,17 @@ lowest_by_one n d p h =
     let e = ratio_lowest n d (record { positive = p; coprime = IsCoprime-of_gcd (unsigned_abs n) d h }) in
     (ap (λ q. q.num) e, ap (λ q. q.den) e)
 
+-- a ratio's own parts are in lowest terms, and are the ratio
 pub reduced_parts : (x : ℤ) (k : ℕ) (n : ℤ) (d : ℕ) → n ≡ (ratio x k).num → d ≡ (ratio x k).den → IsLowest n d × (ratio n d ≡ ratio x k)
 reduced_parts x k n d e f = (rw (e, f) (ratio x k).lowest, ap₂ ratio e f ∙ ratio_self (ratio x k))
 
+-- a sum over one denominator
 pub sum_same : (a b : ℚ) (t : ℤ) (k : ℕ) → a.den ≡ b.den → t ≡ a.num +ℤ b.num → k ≡ a.den → ratio t k ≡ a +ℚ b
 sum_same a b t k e f g =
     ap₂ ratio f g ∙ sym (over-+ℚ a.num a.den b.num a.lowest.positive)
     ∙ ap₂ (λ x y. x +ℚ y) (ratio_self a) (ap (ratio b.num) e ∙ ratio_self b)
 
+-- a sum over the least common denominator
 pub sum_across : (a b : ℚ) (g u v : ℕ) (t n : ℤ) (r e : ℕ) → g ≡ gcd a.den b.den → u ≡ a.den / g → v ≡ b.den / g
     → t ≡ a.num *ℤ pos v +ℤ b.num *ℤ pos u → n ≡ (ratio t g).num → r ≡ (ratio t g).den → e ≡ u * (v * r)
     → IsLowest n e × (ratio n e ≡ a +ℚ b)
@@ -195,11 +199,13 @@ sum_across a b g u v t n r e hg hu hv ht hn hr he =
     let ee : e ≡ u * (v * (ratio t g).den) = he ∙ ap (λ m. u * (v * m)) hr in
     (rw (hn, ee) (sum_lowest a b g u v t p eu ev c ht), rw (hn, ee) (sum_shared a b g u v t p eu ev c ht))
 
+-- a product whose factors are reduced first
 pub product_across : (a b : ℚ) (n m : ℤ) (d e : ℕ) (x : ℤ) (y : ℕ) → n ≡ (ratio a.num b.den).num → d ≡ (ratio a.num b.den).den
     → m ≡ (ratio b.num a.den).num → e ≡ (ratio b.num a.den).den → x ≡ n *ℤ m → y ≡ d * e → IsLowest x y × (ratio x y ≡ a *ℚ b)
 product_across a b n m d e x y hn hd hm he hx hy =
     (rw (hx, hy, hn, hd, hm, he) (product_lowest a b), rw (hx, hy, hn, hd, hm, he) (product_crossed a b))
 
+-- a product with a whole number
 pub times_across : (a : ℚ) (k m : ℤ) (e : ℕ) (x : ℤ) (y : ℕ) → m ≡ (ratio k a.den).num → e ≡ (ratio k a.den).den → x ≡ a.num *ℤ m → y ≡ e
     → IsLowest x y × (ratio x y ≡ a *ℚ whole k)
 times_across a k m e x y hm he hx hy =

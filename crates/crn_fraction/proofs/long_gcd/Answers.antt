@@ -1,4 +1,4 @@
-use Rattle.std.proofs.Common.{arith, ◌∙◌, sym, ap, ◌≡◌}
+use Rattle.std.proofs.Common.{◌∙◌, sym, ap, ◌≡◌}
 use Rattle.crn_fraction.specs.Gcd.{gcd}
 use Rattle.crn_fraction.proofs.Euclid.{gcd_one, gcd_step, gcd_positive, gcd_small}
 use Rattle.crn_fraction.proofs.long_gcd.Goals as goal

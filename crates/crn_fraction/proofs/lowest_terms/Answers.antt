@@ -1,4 +1,4 @@
-use Rattle.std.proofs.Common.{arith, ◌∙◌, sym, ap, ap₂, ◌≡◌, ◌*◌, ◌/◌, to_z, of_z}
+use Rattle.std.proofs.Common.{arith, ◌∙◌, sym, ap, ap₂, ◌≡◌, ◌/◌, to_z, of_z}
 use Rattle.std.specs.Int.{w128}
 use Rattle.std.specs.Prelude.{unsigned_abs, pos, int_div}
 use Rattle.std.proofs.lemmas.Int.{ints, to_z-of_z}
@@ -30,11 +30,11 @@ pub returns : goal.returns
 returns c =
     let shared = (goal.at.returns c).After-long_gcd-common in
     let gives : c.quotient.result ≡ (ratio c.args.num c.args.den).num =
-        c.quotient.ensures
-        ∙ ap₂ (λ n g. int_div n (pos g)) (to_z-of_z w128 c.args.num c.ranges.num) (is_gcd shared)
-        ∙ sym (num-ratio c.args.num c.args.den c.requires) in
+    c.quotient.ensures
+    ∙ ap₂ (λ n g. int_div n (pos g)) (to_z-of_z w128 c.args.num c.ranges.num) (is_gcd shared)
+    ∙ sym (num-ratio c.args.num c.args.den c.requires) in
     let den : c.args.den / c.long_gcd-common.result ≡ (ratio c.args.num c.args.den).den =
-        ap (λ g. c.args.den / g) (is_gcd shared) ∙ sym (den-ratio c.args.num c.args.den c.requires) in
+    ap (λ g. c.args.den / g) (is_gcd shared) ∙ sym (den-ratio c.args.num c.args.den c.requires) in
     let less = num-shrinks c.args.num c.args.den c.requires in
     let num : to_z w128 (of_z w128 c.quotient.result) ≡ (ratio c.args.num c.args.den).num = omega (arith, ints) in
     record { num = num; den = den; small_num = rw num less; small_den = rw den (den-shrinks c.args.num c.args.den c.requires) }

@@ -1,11 +1,11 @@
-use Rattle.std.proofs.Common.{arith, ap, ap₂, refl, ◌≡◌, ◌∙◌, ◌*◌, ◌/◌, ◌<◌, ◌≤◌, to_z, of_z, w64}
+use Rattle.std.proofs.Common.{arith, ap, ap₂, refl, ◌≡◌, ◌∙◌, ◌*◌, ◌/◌, ◌≤◌, to_z, of_z}
 use Rattle.std.specs.Int.{w128}
-use Rattle.std.specs.Prelude.{pos, ◌*ℤ◌, ◌+ℤ◌}
-use Rattle.std.proofs.lemmas.Int.{ints, to_z-of_z}
+use Rattle.std.specs.Prelude.{◌+ℤ◌}
+use Rattle.std.proofs.lemmas.Int.{ints}
 use Rattle.crn_fraction.specs.Gcd.{gcd}
-use Rattle.crn_fraction.specs.Rational.{IsLowest, ratio, whole, ◌+ℚ◌, ◌*ℚ◌}
-use Rattle.crn_fraction.proofs.Values.{answer_at, cmp_of, part_below, word_fits}
-use Rattle.crn_fraction.proofs.Lowest.{sum_same, sum_across, product_across, times_across}
+use Rattle.crn_fraction.specs.Rational.{IsLowest, ratio, ◌+ℚ◌}
+use Rattle.crn_fraction.proofs.Values.{answer_at, part_below, word_fits}
+use Rattle.crn_fraction.proofs.Lowest.{sum_across}
 use Rattle.crn_fraction.proofs.Frac.add_across.Goals as goal
 use Rattle.crn_fraction.proofs.Frac.add_across.Goals.{After-lowest_terms-num}
 
@@ -38,7 +38,7 @@ sum_is c =
     let left : to_z w128 (of_z w128 c.num_times.result) ≡ c.num_times.result = omega (arith, ints) in
     let right : to_z w128 (of_z w128 c.num_times-2.result) ≡ c.num_times-2.result = omega (arith, ints) in
     let total : to_z w128 (of_z w128 (to_z w128 (of_z w128 c.num_times.result) +ℤ to_z w128 (of_z w128 c.num_times-2.result)))
-        ≡ to_z w128 (of_z w128 c.num_times.result) +ℤ to_z w128 (of_z w128 c.num_times-2.result) = omega (arith, ints) in
+    ≡ to_z w128 (of_z w128 c.num_times.result) +ℤ to_z w128 (of_z w128 c.num_times-2.result) = omega (arith, ints) in
     let same : to_z w128 (of_z w128 c.lowest_terms-num.result.0) ≡ c.lowest_terms-num.result.0 = omega (arith, ints) in
     sum_across c.args.self c.args.other g _ _ _ _ _ _
     (c.long_gcd-common.ensures.value ∙ ap₂ gcd c.den_word-den.ensures.value c.den_word-other_den.ensures.value)

@@ -1,11 +1,7 @@
-use Rattle.std.proofs.Common.{arith, ap, ap₂, refl, ◌≡◌, ◌∙◌, ◌*◌, ◌/◌, ◌<◌, ◌≤◌, to_z, of_z, w64}
+use Rattle.std.proofs.Common.{arith, ap₂, ◌≡◌, ◌∙◌, to_z, of_z, w64}
 use Rattle.std.specs.Int.{w128}
-use Rattle.std.specs.Prelude.{pos, ◌*ℤ◌, ◌+ℤ◌}
-use Rattle.std.proofs.lemmas.Int.{ints, to_z-of_z}
-use Rattle.crn_fraction.specs.Gcd.{gcd}
-use Rattle.crn_fraction.specs.Rational.{IsLowest, ratio, whole, ◌+ℚ◌, ◌*ℚ◌}
-use Rattle.crn_fraction.proofs.Values.{answer_at, cmp_of}
-use Rattle.crn_fraction.proofs.Lowest.{sum_same, sum_across, product_across, times_across}
+use Rattle.std.specs.Prelude.{pos, ◌*ℤ◌}
+use Rattle.std.proofs.lemmas.Int.{ints}
 use Rattle.crn_fraction.proofs.Frac.num_times.Goals as goal
 
 pub returns-clause-value : goal.returns-clause-value
