@@ -172,17 +172,17 @@ pub struct StdSink<W: Write + Drop> {
 }
 
 impl<W: Write + Drop> Model for StdSink<W> {
-    ghost use Rattle.std.specs.Prelude.{ℕ};
+    ghost use Rattle.crn_io.specs.System.{Adapter};
 
-    ghost Value = { ℕ };
+    ghost Value = { Adapter };
 
-    ghost view = { λ s. s.faults };
+    ghost view = { λ s. record { known = W.contents s.writer; faults = s.faults } };
 }
 
 impl<W: Write + Drop> StdSink<W> {
     /// A sink that writes into `writer`, with no fault so far.
     pub fn new(writer: W) -> StdSink<W>
-        ensures { result ≡ 0 }
+        ensures { result ≡ record { known = W.contents writer; faults = 0 } }
     {
         StdSink { writer, faults: 0 }
     }
@@ -191,16 +191,17 @@ impl<W: Write + Drop> StdSink<W> {
 impl<W: Write + Drop> Sink for StdSink<W> {
     ghost written = { λ _. None };
 
-    ghost faults = { λ count. count };
+    ghost faults = { λ s. s.faults };
 
     fn write(&mut self, piece: &[u8]) -> Result<usize, Failed>
         requires { 0 < length piece.now }
         ensures some { IfOk result (λ n. 1 ≤ n) }
         ensures bound { IfOk result (λ n. n ≤ length piece.now) }
         ensures bytes { WriteAppends None None result piece.now }
-        ensures cause { HasCause self.old self.new result }
-        ensures ok { OnOk result (self.new ≡ self.old) }
-        ensures err { OnErr result (self.new ≡ raised self.old) }
+        ensures cause { HasCause self.old.faults self.new.faults result }
+        ensures hands_on { IfOk result (λ n. Appends self.old.known self.new.known (take n piece.now)) }
+        ensures ok { OnOk result (self.new.faults ≡ self.old.faults) }
+        ensures err { OnErr result (self.new.faults ≡ raised self.old.faults) }
     {
         if let Ok(count) = self.writer.write(piece)
             && count > 0

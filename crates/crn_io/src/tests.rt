@@ -3,9 +3,7 @@ use std::alloc::Global;
 use std::io::{self, ErrorKind, Read, Write};
 use std::test::Fail;
 
-fn bytes_of(alloc: Global, text: &[u8]) -> Result<Vec<u8>, Fail>
-    ensures { IfOk result (λ v. v.items ≡ text.now) }
-{
+fn bytes_of(alloc: Global, text: &[u8]) -> Result<Vec<u8>, Fail> {
     let mut bytes = Vec::new(alloc);
     bytes.extend_from_slice(text)?;
     Ok(bytes)
@@ -48,7 +46,10 @@ fn the_second_read_fails(rt: HostRuntime) -> Result<(), Fail> {
 fn the_second_write_fails(rt: HostRuntime) -> Result<(), Fail> {
     let alloc = rt.alloc();
     let mut sink = MemSink::new(alloc, 100, 10, vec![in alloc; 2]?)?;
-    assert_eq!(rt; write_all(&mut sink, b"species 16 reactions 13"), Err(Failed));
+    assert_eq!(rt;
+        write_all(&mut sink, b"species 16 reactions 13"),
+        Err(Failed)
+    );
     assert_eq!(rt; sink.written(), b"species 16".as_slice());
     assert_eq!(rt; sink.faults(), 1);
     assert_eq!(rt; write_all(&mut sink, b" reactions 13"), Ok(()));

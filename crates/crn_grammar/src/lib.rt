@@ -1,0 +1,35 @@
+//! Grammars of lines, as tables of what may follow a line, and the right answer to a text.
+#![tactic(auto)]
+
+ghost use Rattle.std.specs.Prelude.{ℕ, Bool, List, Option, Some, IsTrue, ◌≡◌};
+ghost use Rattle.crn_grammar.specs.Table.{Table, CanEnd, IsText, PassesNone, IsAnswer, Read, after, answer};
+ghost use Rattle.crn_grammar.specs.Part.{Either, Part, part_answer, joined_table, go_on};
+
+/// Where each place that lines lead to can still end, the answer line by line is the right one: the value of a text, the first
+/// line after which no text can go on, or the first line that passes a limit.
+pub fn answer_is_right<S, L, F, W>()
+    ensures { (table : Table S L F W) (number : L → ℕ) (end : ℕ) (lines : List L) → CanEnd table
+        → IsAnswer table number end lines (answer table number end table.start lines) }
+{}
+
+/// A text of the grammar that passes no limit is read, with its value.
+pub fn text_is_read<S, L, F, W>()
+    ensures { (table : Table S L F W) (number : L → ℕ) (end : ℕ) (lines : List L) (f : F) → IsText table lines f → PassesNone table lines
+        → answer table number end table.start lines ≡ Read f }
+{}
+
+/// Each place can end where a test of the places, which passes at the start and after each line that is allowed, lets them end.
+pub fn places_can_end<S, L, F, W>()
+    ensures { (table : Table S L F W) (is_fine : S → Bool) → IsTrue (is_fine table.start)
+        → ((s : S) (line : L) (t : S) → IsTrue (is_fine s) → table.next s line ≡ Some t → IsTrue (is_fine t))
+        → ((s : S) → IsTrue (is_fine s) → (more : List L) × (t : S) × (f : F) × (after table s more ≡ Some t) × (table.whole t ≡ Some f))
+        → CanEnd table }
+{}
+
+/// The answer to a text that begins with a part is the answer to the part, and then the answer to what follows it.
+pub fn part_comes_first<S, R, L, F, G, W>()
+    ensures { (table : Table S L F W) (goes_on : S → L → Bool) (start : F → R) (next : R → L → Option R) (whole : R → Option G) (limit : R → Option W)
+        (number : L → ℕ) (end : ℕ) (s : S) (lines : List L)
+        → answer (joined_table table goes_on start next whole limit) number end (Part s) lines
+        ≡ go_on table goes_on start next whole limit number end (part_answer table goes_on number end s lines) }
+{}
