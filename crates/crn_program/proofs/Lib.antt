@@ -7,3 +7,6 @@ pub mod ReportLaws
 pub mod Shifting
 pub mod PartLists
 pub mod Turning
+pub mod Completing
+pub mod MinimumComputes
+pub mod Answering

@@ -55,14 +55,14 @@ amount-after_parts side u low [] c s ok = sym (ap (λ x. amount c s +ℚ x) (mov
 amount-after_parts side u low (p ∷ ps) c s ok =
     let c' = after_part side u p c in
     let rest : (t : ℕ) → amount (after_parts side u ps c') t ≡ amount c' t +ℚ moved_of side u ps t =
-        λ t. amount-after_parts side u p.species ps c' t (still_parts side u p ps c ok.3) in
+    λ t. amount-after_parts side u p.species ps c' t (still_parts side u p ps c ok.3) in
     ⊎_elim
     (λ (same : p.species ≡ s).
-        subst (λ t. amount (after_parts side u ps c') t ≡ amount c t +ℚ moved_of side u (p ∷ ps) t) same
-        (rest p.species ∙ ap₂ (λ x y. x +ℚ y) (amount-set_same c p.species _ (omega (arith, ok.0)) ok.1) (moved_none side u ps p.species (none_left p.species (length c) ps ok.3))
-          ∙ +ℚ-zero _ ∙ ap (λ n. amount c p.species +ℚ u *ℚ whole (signed side n)) (sym (count_of_same low (length c) p ps ok))))
+    subst (λ t. amount (after_parts side u ps c') t ≡ amount c t +ℚ moved_of side u (p ∷ ps) t) same
+    (rest p.species ∙ ap₂ (λ x y. x +ℚ y) (amount-set_same c p.species _ (omega (arith, ok.0)) ok.1) (moved_none side u ps p.species (none_left p.species (length c) ps ok.3))
+    ∙ +ℚ-zero _ ∙ ap (λ n. amount c p.species +ℚ u *ℚ whole (signed side n)) (sym (count_of_same low (length c) p ps ok))))
     (λ (other : p.species ≢ s).
-        rest s ∙ ap₂ (λ x n. x +ℚ u *ℚ whole (signed side n)) (amount-set_other c p.species s _ (omega (arith, ok.0)) other) (sym (count_of_other p ps s other)))
+    rest s ∙ ap₂ (λ x n. x +ℚ u *ℚ whole (signed side n)) (amount-set_other c p.species s _ (omega (arith, ok.0)) other) (sym (count_of_other p ps s other)))
     (same_or_other p.species s)
 
 -- of all parts those are left, and the others lead from the start to now
@@ -98,15 +98,16 @@ pub each_sum : (P : ℚ → ℚ → Type 0) (side : Side) (u : ℚ) (low : ℕ) 
 each_sum P side u low [] c ok each = tt
 each_sum P side u low (p ∷ ps) c ok each =
     let own : count_of (p ∷ ps) p.species ≡ p.count = count_of_same low (length c) p ps ok in
-    let c' = after_part side u p c in
-    (subst (λ n. P (u *ℚ whole (signed side n)) (amount c p.species +ℚ u *ℚ whole (signed side n))) own (each p.species (subst (λ n. 0 < n) (sym own) ok.2)),
-     each_sum P side u p.species ps c' (still_parts side u p ps c ok.3)
-       (λ s some.
-         let above = count_of_in_range p.species (length c) ps s ok.3 some in
-         let other : p.species ≢ s = omega (arith, above.0) in
-         let same : count_of (p ∷ ps) s ≡ count_of ps s = count_of_other p ps s other in
-         subst (λ x. P (moved_of side u ps s) (x +ℚ moved_of side u ps s)) (sym (amount-set_other c p.species s _ (omega (arith, ok.0)) other))
-           (subst (λ n. P (u *ℚ whole (signed side n)) (amount c s +ℚ u *ℚ whole (signed side n))) same (each s (subst (λ n. 0 < n) (sym same) some)))))
+    let c' = after_part side u p c in (
+      subst (λ n. P (u *ℚ whole (signed side n)) (amount c p.species +ℚ u *ℚ whole (signed side n))) own (each p.species (subst (λ n. 0 < n) (sym own) ok.2)),
+      each_sum P side u p.species ps c' (still_parts side u p ps c ok.3)
+          (λ s some.
+          let above = count_of_in_range p.species (length c) ps s ok.3 some in
+          let other : p.species ≢ s = omega (arith, above.0) in
+          let same : count_of (p ∷ ps) s ≡ count_of ps s = count_of_other p ps s other in
+          subst (λ x. P (moved_of side u ps s) (x +ℚ moved_of side u ps s)) (sym (amount-set_other c p.species s _ (omega (arith, ok.0)) other))
+          (subst (λ n. P (u *ℚ whole (signed side n)) (amount c s +ℚ u *ℚ whole (signed side n))) same (each s (subst (λ n. 0 < n) (sym same) some)))),
+    )
 
 -- and back
 pub sum_of_each : (P : ℚ → ℚ → Type 0) (side : Side) (u : ℚ) (low : ℕ) (ps : List Part) (c : List ℚ) → AreParts low (length c) ps →
@@ -116,11 +117,11 @@ sum_of_each P side u low (p ∷ ps) c ok each s some =
     let c' = after_part side u p c in
     ⊎_elim
     (λ (same : p.species ≡ s).
-        subst (λ t. P (moved_of side u (p ∷ ps) t) (amount c t +ℚ moved_of side u (p ∷ ps) t)) same
-          (subst (λ n. P (u *ℚ whole (signed side n)) (amount c p.species +ℚ u *ℚ whole (signed side n))) (sym (count_of_same low (length c) p ps ok)) each.0))
+    subst (λ t. P (moved_of side u (p ∷ ps) t) (amount c t +ℚ moved_of side u (p ∷ ps) t)) same
+    (subst (λ n. P (u *ℚ whole (signed side n)) (amount c p.species +ℚ u *ℚ whole (signed side n))) (sym (count_of_same low (length c) p ps ok)) each.0))
     (λ (other : p.species ≢ s).
-        let same : count_of (p ∷ ps) s ≡ count_of ps s = count_of_other p ps s other in
-        subst (λ n. P (u *ℚ whole (signed side n)) (amount c s +ℚ u *ℚ whole (signed side n))) (sym same)
-          (subst (λ x. P (moved_of side u ps s) (x +ℚ moved_of side u ps s)) (amount-set_other c p.species s _ (omega (arith, ok.0)) other)
-            (sum_of_each P side u p.species ps c' (still_parts side u p ps c ok.3) each.1 s (subst (λ n. 0 < n) same some))))
+    let same : count_of (p ∷ ps) s ≡ count_of ps s = count_of_other p ps s other in
+    subst (λ n. P (u *ℚ whole (signed side n)) (amount c s +ℚ u *ℚ whole (signed side n))) (sym same)
+    (subst (λ x. P (moved_of side u ps s) (x +ℚ moved_of side u ps s)) (amount-set_other c p.species s _ (omega (arith, ok.0)) other)
+    (sum_of_each P side u p.species ps c' (still_parts side u p ps c ok.3) each.1 s (subst (λ n. 0 < n) same some))))
     (same_or_other p.species s)

@@ -32,21 +32,21 @@ lacks_some : (low n : ℕ) (m : ℕ → ℚ) (ps : List Part) → AreParts low n
 lacks_some low n m [] h k = absurd (cc k)
 lacks_some low n m (p ∷ ps) h k =
     ⊎_elim (λ (z : (m p.species ≡ 0ℚ) × (is_zero_ℚ (m p.species) ≡ true)). (p.species, subst (λ x. 0 < x) (sym (count_of_same low n p ps h)) h.2, z.0))
-      (λ (z : (m p.species ≢ 0ℚ) × (is_zero_ℚ (m p.species) ≡ false)).
-        let rest : (s : ℕ) × (0 < count_of ps s) × (m s ≡ 0ℚ) = lacks_some p.species n m ps h.3 (sym (ap (λ b. b || lacks m ps) z.1) ∙ k) in
-        let t : 0 < count_of ps rest.0 = rest.1 in
-        (rest.0, (let more : 0 < (if p.species == rest.0 then p.count else 0) + count_of ps rest.0 = omega arith in more), rest.2))
-      (is_zero_ℚ_cases (m p.species))
+    (λ (z : (m p.species ≢ 0ℚ) × (is_zero_ℚ (m p.species) ≡ false)).
+    let rest : (s : ℕ) × (0 < count_of ps s) × (m s ≡ 0ℚ) = lacks_some p.species n m ps h.3 (sym (ap (λ b. b || lacks m ps) z.1) ∙ k) in
+    let t : 0 < count_of ps rest.0 = rest.1 in
+    (rest.0, (let more : 0 < (if p.species == rest.0 then p.count else 0) + count_of ps rest.0 = omega arith in more), rest.2))
+    (is_zero_ℚ_cases (m p.species))
 
 lacks_none : (m : ℕ → ℚ) (ps : List Part) (s : ℕ) → lacks m ps ≡ false → 0 < count_of ps s → m s ≢ 0ℚ
 lacks_none m [] s h k = absurd (omega arith)
 lacks_none m (p ∷ ps) s h k =
     ⊎_elim (λ (z : (m p.species ≡ 0ℚ) × (is_zero_ℚ (m p.species) ≡ true)). let e : true ≡ false = sym (ap (λ b. b || lacks m ps) z.1) ∙ h in absurd (cc e))
-      (λ (z : (m p.species ≢ 0ℚ) × (is_zero_ℚ (m p.species) ≡ false)).
-        ⊎_elim (λ (e : p.species ≡ s). subst (λ x. m x ≢ 0ℚ) e z.0)
-          (λ (e : p.species ≢ s). lacks_none m ps s (sym (ap (λ b. b || lacks m ps) z.1) ∙ h) (subst (λ x. 0 < x) (count_of_other p ps s e) k))
-          (same_or_other p.species s))
-      (is_zero_ℚ_cases (m p.species))
+    (λ (z : (m p.species ≢ 0ℚ) × (is_zero_ℚ (m p.species) ≡ false)).
+    ⊎_elim (λ (e : p.species ≡ s). subst (λ x. m x ≢ 0ℚ) e z.0)
+    (λ (e : p.species ≢ s). lacks_none m ps s (sym (ap (λ b. b || lacks m ps) z.1) ∙ h) (subst (λ x. 0 < x) (count_of_other p ps s e) k))
+    (same_or_other p.species s))
+    (is_zero_ℚ_cases (m p.species))
 
 -- ---- quotients
 
@@ -54,12 +54,13 @@ lacks_none m (p ∷ ps) s h k =
 parts_fit : (low n : ℕ) (m : ℕ → ℚ) (ps : List Part) → AreParts low n ps → ((s : ℕ) → 0 < count_of ps s → IsFrac (m s /ℚ whole (pos (count_of ps s)))) → PartsFit m ps
 parts_fit low n m [] ok each = tt
 parts_fit low n m (p ∷ ps) ok each =
-    let own : count_of (p ∷ ps) p.species ≡ p.count = count_of_same low n p ps ok in
-    (subst (λ k. IsFrac (m p.species /ℚ whole (pos k))) own (each p.species (subst (λ k. 0 < k) (sym own) ok.2)),
-     parts_fit p.species n m ps ok.3 (λ s some.
-         let above = count_of_in_range p.species n ps s ok.3 some in
-         let same : count_of (p ∷ ps) s ≡ count_of ps s = count_of_other p ps s (omega (arith, above.0)) in
-         subst (λ k. IsFrac (m s /ℚ whole (pos k))) same (each s (subst (λ k. 0 < k) (sym same) some))))
+    let own : count_of (p ∷ ps) p.species ≡ p.count = count_of_same low n p ps ok in (
+      subst (λ k. IsFrac (m p.species /ℚ whole (pos k))) own (each p.species (subst (λ k. 0 < k) (sym own) ok.2)),
+      parts_fit p.species n m ps ok.3 (λ s some.
+          let above = count_of_in_range p.species n ps s ok.3 some in
+          let same : count_of (p ∷ ps) s ≡ count_of ps s = count_of_other p ps s (omega (arith, above.0)) in
+          subst (λ k. IsFrac (m s /ℚ whole (pos k))) same (each s (subst (λ k. 0 < k) (sym same) some))),
+    )
 
 -- and back
 fits_of_parts : (low n : ℕ) (m : ℕ → ℚ) (ps : List Part) → AreParts low n ps → PartsFit m ps → (s : ℕ) → 0 < count_of ps s → IsFrac (m s /ℚ whole (pos (count_of ps s)))
@@ -68,8 +69,8 @@ fits_of_parts low n m (p ∷ ps) ok fit s some =
     ⊎_elim
     (λ (same : p.species ≡ s). subst (λ t. IsFrac (m t /ℚ whole (pos (count_of (p ∷ ps) t)))) same (subst (λ k. IsFrac (m p.species /ℚ whole (pos k))) (sym (count_of_same low n p ps ok)) fit.0))
     (λ (other : p.species ≢ s).
-        let same : count_of (p ∷ ps) s ≡ count_of ps s = count_of_other p ps s other in
-        subst (λ k. IsFrac (m s /ℚ whole (pos k))) (sym same) (fits_of_parts p.species n m ps ok.3 fit.1 s (subst (λ k. 0 < k) same some)))
+    let same : count_of (p ∷ ps) s ≡ count_of ps s = count_of_other p ps s other in
+    subst (λ k. IsFrac (m s /ℚ whole (pos k))) (sym same) (fits_of_parts p.species n m ps ok.3 fit.1 s (subst (λ k. 0 < k) same some)))
     (same_or_other p.species s)
 
 -- ---- changes
@@ -131,8 +132,8 @@ module _ (net : Network) (ok : IsNetwork net) (apart : HasApartSides net) (r : �
   flux_not_negative =
       let used : (s : ℕ) × (0 < taken net r s) × (whole (pos (taken net r s)) *ℚ greatest_flux net r (amount c) ≡ amount c s) = greatest_flux_uses net ok.reactions r low high (amount c) in
       ≤ℚ_of_whole-*ℚ 0ℚ (greatest_flux net r (amount c)) (taken net r used.0) used.1
-        (subst (λ x. x ≤ℚ whole (pos (taken net r used.0)) *ℚ greatest_flux net r (amount c)) (sym (*ℚ-zero (whole (pos (taken net r used.0)))))
-          (subst (λ x. 0ℚ ≤ℚ x) (sym used.2) (state.not_negative used.0)))
+      (subst (λ x. x ≤ℚ whole (pos (taken net r used.0)) *ℚ greatest_flux net r (amount c)) (sym (*ℚ-zero (whole (pos (taken net r used.0)))))
+      (subst (λ x. 0ℚ ≤ℚ x) (sym used.2) (state.not_negative used.0)))
 
   -- ---- a reaction that lacks a reactant is left out
 
@@ -148,10 +149,10 @@ module _ (net : Network) (ok : IsNetwork net) (apart : HasApartSides net) (r : �
   absent_turn some =
       let u : ℚ = flux in
       let below : whole (pos (taken net r some.0)) *ℚ u ≤ℚ whole (pos (taken net r some.0)) *ℚ 0ℚ =
-            subst (λ x. whole (pos (taken net r some.0)) *ℚ u ≤ℚ x) (some.2 ∙ sym (*ℚ-zero (whole (pos (taken net r some.0))))) (greatest_flux_fits net ok.reactions r low high (amount c) some.0 some.1) in
+      subst (λ x. whole (pos (taken net r some.0)) *ℚ u ≤ℚ x) (some.2 ∙ sym (*ℚ-zero (whole (pos (taken net r some.0))))) (greatest_flux_fits net ok.reactions r low high (amount c) some.0 some.1) in
       let zero_flux : u ≡ 0ℚ = ≤ℚ_antisymm _ _ (≤ℚ_of_whole-*ℚ u 0ℚ (taken net r some.0) some.1 below) flux_not_negative in
       ⊎_elim (λ (z : (u ≡ 0ℚ) × (is_zero_ℚ u ≡ true)). ap (λ b. if b then [] else alone r u ∷ []) z.1)
-        (λ (z : (u ≢ 0ℚ) × (is_zero_ℚ u ≡ false)). absurd (z.0 zero_flux)) (is_zero_ℚ_cases u)
+      (λ (z : (u ≢ 0ℚ) × (is_zero_ℚ u ≡ false)). absurd (z.0 zero_flux)) (is_zero_ℚ_cases u)
 
   pub absent_fits : LacksReactant net r c → TurnFits net r c
   absent_fits some = record { quotients = λ not. absurd (not some); step = λ not. absurd (not some) }
@@ -163,15 +164,15 @@ module _ (net : Network) (ok : IsNetwork net) (apart : HasApartSides net) (r : �
       let u : ℚ = flux in
       let used : (s : ℕ) × (0 < taken net r s) × (whole (pos (taken net r s)) *ℚ u ≡ amount c s) = greatest_flux_uses net ok.reactions r low high (amount c) in
       ⊎_elim (λ (k : u ≤ℚ 0ℚ).
-          let zero_flux : u ≡ 0ℚ = ≤ℚ_antisymm _ _ k flux_not_negative in
-          absurd (h (used.0, used.1, sym used.2 ∙ ap (λ x. whole (pos (taken net r used.0)) *ℚ x) zero_flux ∙ *ℚ-zero (whole (pos (taken net r used.0))))))
-        (λ (k : 0ℚ <ℚ u). k) (≤ℚ_or_<ℚ u 0ℚ)
+      let zero_flux : u ≡ 0ℚ = ≤ℚ_antisymm _ _ k flux_not_negative in
+      absurd (h (used.0, used.1, sym used.2 ∙ ap (λ x. whole (pos (taken net r used.0)) *ℚ x) zero_flux ∙ *ℚ-zero (whole (pos (taken net r used.0))))))
+      (λ (k : 0ℚ <ℚ u). k) (≤ℚ_or_<ℚ u 0ℚ)
 
   pub present_turn : 0ℚ <ℚ flux → with_greatest net r c ≡ alone r flux ∷ []
   present_turn h =
       let u : ℚ = flux in
       ⊎_elim (λ (z : (u ≡ 0ℚ) × (is_zero_ℚ u ≡ true)). absurd (<ℚ_irrefl 0ℚ (subst (λ x. 0ℚ <ℚ x) z.0 h)))
-        (λ (z : (u ≢ 0ℚ) × (is_zero_ℚ u ≡ false)). ap (λ b. if b then [] else alone r u ∷ []) z.1) (is_zero_ℚ_cases u)
+      (λ (z : (u ≢ 0ℚ) × (is_zero_ℚ u ≡ false)). ap (λ b. if b then [] else alone r u ∷ []) z.1) (is_zero_ℚ_cases u)
 
   pub legal_turn : 0ℚ <ℚ flux → IsLegal net c (alone r flux)
   legal_turn h = legal_alone net ok.reactions r low high c state.not_negative (greatest_flux net r (amount c)) h (λ s t. greatest_flux_fits net ok.reactions r low high (amount c) s t)
@@ -213,7 +214,7 @@ module _ (net : Network) (ok : IsNetwork net) (apart : HasApartSides net) (r : �
   pub takes_stay : SumsStay Takes flux takes c
   takes_stay = each_sum (λ product sum. 0ℚ ≤ℚ sum) Takes flux 0 takes c are_takes
       (λ s some. still_there (amount c s) flux (count_of takes s)
-        (subst (λ n. whole (pos n) *ℚ flux ≤ℚ amount c s) (taken_is s) (greatest_flux_fits net ok.reactions r low high (amount c) s (subst (λ n. 0 < n) (sym (taken_is s)) some))))
+      (subst (λ n. whole (pos n) *ℚ flux ≤ℚ amount c s) (taken_is s) (greatest_flux_fits net ok.reactions r low high (amount c) s (subst (λ n. 0 < n) (sym (taken_is s)) some))))
 
   pub gives_stay : SumsStay Gives flux gives took
   gives_stay = each_sum (λ product sum. 0ℚ ≤ℚ sum) Gives flux 0 gives took are_gives
@@ -241,26 +242,26 @@ module _ (net : Network) (ok : IsNetwork net) (apart : HasApartSides net) (r : �
   step_fits : ((s : ℕ) → 1 ≤ s → s ≤ net.species → (0 < count_of takes s) ⊎ (0 < count_of gives s) → BothFitAt s) → StepFits net c (alone r flux)
   step_fits each s lows highs =
       let on : (0 < count_of takes s) ⊎ (0 < count_of gives s) → SumFits (change net s) (amount c s) (flows_of net s (alone r flux)) =
-            λ some. let both = each s lows highs some in subst (λ b. SumFits (change net s) (amount c s) (if b then alone r flux else [])) (sym (on_side s some)) (both.0, both.1, tt) in
+      λ some. let both = each s lows highs some in subst (λ b. SumFits (change net s) (amount c s) (if b then alone r flux else [])) (sym (on_side s some)) (both.0, both.1, tt) in
       ⊎_elim (λ (t : 0 < count_of takes s). on (inl t))
-        (λ (nt : count_of takes s ≤ 0). ⊎_elim (λ (g : 0 < count_of gives s). on (inr g))
-          (λ (ng : count_of gives s ≤ 0). subst (λ b. SumFits (change net s) (amount c s) (if b then alone r flux else [])) (sym (off_side s (omega arith) (omega arith))) tt)
-          (cases_lt 0 (count_of gives s)))
-        (cases_lt 0 (count_of takes s))
+      (λ (nt : count_of takes s ≤ 0). ⊎_elim (λ (g : 0 < count_of gives s). on (inr g))
+      (λ (ng : count_of gives s ≤ 0). subst (λ b. SumFits (change net s) (amount c s) (if b then alone r flux else [])) (sym (off_side s (omega arith) (omega arith))) tt)
+      (cases_lt 0 (count_of gives s)))
+      (cases_lt 0 (count_of takes s))
 
   -- a turn that fits has sums that fit
   pub takes_fit : (LacksReactant net r c → ⊥) → TurnFits net r c → SumsFit Takes flux takes c
   takes_fit present_all fit = each_sum BothFit Takes flux 0 takes c are_takes
       (λ s some.
-        let in_range = count_of_in_range 0 net.species takes s (ok.reactions r low high).takes some in
-        subst (λ x. BothFit x (amount c s +ℚ x)) (takes_change s some) (fits_at s (omega (arith, in_range.0)) in_range.1 (inl some) (fit.step present_all)))
+      let in_range = count_of_in_range 0 net.species takes s (ok.reactions r low high).takes some in
+      subst (λ x. BothFit x (amount c s +ℚ x)) (takes_change s some) (fits_at s (omega (arith, in_range.0)) in_range.1 (inl some) (fit.step present_all)))
 
   pub gives_fit : (LacksReactant net r c → ⊥) → TurnFits net r c → SumsFit Gives flux gives took
   gives_fit present_all fit = each_sum BothFit Gives flux 0 gives took are_gives
       (λ s some.
-        let in_range = count_of_in_range 0 net.species gives s (ok.reactions r low high).gives some in
-        subst (λ a. BothFit (moved_of Gives flux gives s) (a +ℚ moved_of Gives flux gives s)) (sym (took_none s some))
-          (subst (λ x. BothFit x (amount c s +ℚ x)) (gives_change s some) (fits_at s (omega (arith, in_range.0)) in_range.1 (inr some) (fit.step present_all))))
+      let in_range = count_of_in_range 0 net.species gives s (ok.reactions r low high).gives some in
+      subst (λ a. BothFit (moved_of Gives flux gives s) (a +ℚ moved_of Gives flux gives s)) (sym (took_none s some))
+      (subst (λ x. BothFit x (amount c s +ℚ x)) (gives_change s some) (fits_at s (omega (arith, in_range.0)) in_range.1 (inr some) (fit.step present_all))))
 
   pub parts_fit_of : (LacksReactant net r c → ⊥) → TurnFits net r c → PartsFit (amount c) takes
   parts_fit_of present_all fit = parts_fit 0 net.species (amount c) takes (ok.reactions r low high).takes
@@ -271,10 +272,10 @@ module _ (net : Network) (ok : IsNetwork net) (apart : HasApartSides net) (r : �
   turn_fits parts sums_t sums_g = record {
     quotients = λ _ s some. subst (λ n. IsFrac (amount c s /ℚ whole (pos n))) (sym (taken_is s)) (fits_of_parts 0 net.species (amount c) takes (ok.reactions r low high).takes parts s (subst (λ n. 0 < n) (taken_is s) some));
     step = λ _. step_fits (λ s lows highs some. ⊎_elim
-      (λ (t : 0 < count_of takes s). subst (λ x. BothFit x (amount c s +ℚ x)) (sym (takes_change s t)) (sum_of_each BothFit Takes flux 0 takes c are_takes sums_t s t))
-      (λ (g : 0 < count_of gives s). subst (λ x. BothFit x (amount c s +ℚ x)) (sym (gives_change s g))
+        (λ (t : 0 < count_of takes s). subst (λ x. BothFit x (amount c s +ℚ x)) (sym (takes_change s t)) (sum_of_each BothFit Takes flux 0 takes c are_takes sums_t s t))
+        (λ (g : 0 < count_of gives s). subst (λ x. BothFit x (amount c s +ℚ x)) (sym (gives_change s g))
         (subst (λ a. BothFit (moved_of Gives flux gives s) (a +ℚ moved_of Gives flux gives s)) (took_none s g) (sum_of_each BothFit Gives flux 0 gives took are_gives sums_g s g)))
-      some);
+        some);
   }
 
   -- ---- both sides are one step
@@ -282,17 +283,17 @@ module _ (net : Network) (ok : IsNetwork net) (apart : HasApartSides net) (r : �
   after_amount : (s : ℕ) → 1 ≤ s → s ≤ net.species → amount (after_parts Gives flux gives took) s ≡ amount (after net c (alone r flux)) s
   after_amount s lows highs =
       let both : amount (after_parts Gives flux gives took) s ≡ (amount c s +ℚ moved_of Takes flux takes s) +ℚ moved_of Gives flux gives s =
-            amount-after_parts Gives flux 0 gives took s are_gives ∙ ap (λ x. x +ℚ moved_of Gives flux gives s) (took_amount s) in
+      amount-after_parts Gives flux 0 gives took s are_gives ∙ ap (λ x. x +ℚ moved_of Gives flux gives s) (took_amount s) in
       let one = amount_alone net c r s flux low high lows highs in
       +ℚ_cancel_right _ _ (whole (pos (taken net r s)) *ℚ flux)
-        (ap₂ (λ x t. x +ℚ whole (pos t) *ℚ flux) both (taken_is s) ∙ both_sides (amount c s) flux (count_of takes s) (count_of gives s)
-          ∙ ap (λ g. amount c s +ℚ whole (pos g) *ℚ flux) (sym (given_is s)) ∙ sym one)
+      (ap₂ (λ x t. x +ℚ whole (pos t) *ℚ flux) both (taken_is s) ∙ both_sides (amount c s) flux (count_of takes s) (count_of gives s)
+      ∙ ap (λ g. amount c s +ℚ whole (pos g) *ℚ flux) (sym (given_is s)) ∙ sym one)
 
   pub sides_are_step : after_parts Gives flux gives took ≡ after net c (alone r flux)
   sides_are_step =
       let long : length (after_parts Gives flux gives took) ≡ net.species = length-after_parts Gives flux gives took ∙ length-after_parts Takes flux takes c ∙ state.long in
       ext_get_or 0ℚ _ _ (long ∙ sym (length-after net c (alone r flux)))
-        (λ i within. after_amount (suc i) (omega arith) (omega (arith, long)))
+      (λ i within. after_amount (suc i) (omega arith) (omega (arith, long)))
 
   -- ---- the turn, as the code takes it: over parts ts and gs that are those of the reaction, and a flux u that is the greatest
 
@@ -325,8 +326,8 @@ module _ (net : Network) (ok : IsNetwork net) (apart : HasApartSides net) (r : �
   pub turn_fits_at : (ts gs : List Part) (u : ℚ) (d : List ℚ) → ts ≡ takes → gs ≡ gives → u ≡ flux → d ≡ took → PartsFit (amount c) ts → SumsFit Takes u ts c → SumsFit Gives u gs d → TurnFits net r c
   turn_fits_at ts gs u d et eg eu ed parts sums_t sums_g =
       turn_fits (subst (PartsFit (amount c)) et parts)
-        (subst (λ ps. SumsFit Takes flux ps c) et (subst (λ v. SumsFit Takes v ts c) eu sums_t))
-        (subst (λ ps. SumsFit Gives flux ps took) eg (subst (λ v. SumsFit Gives v gs took) eu (subst (λ e. SumsFit Gives u gs e) ed sums_g)))
+      (subst (λ ps. SumsFit Takes flux ps c) et (subst (λ v. SumsFit Takes v ts c) eu sums_t))
+      (subst (λ ps. SumsFit Gives flux ps took) eg (subst (λ v. SumsFit Gives v gs took) eu (subst (λ e. SumsFit Gives u gs e) ed sums_g)))
 
   pub kept_at : (u : ℚ) → u ≡ flux → (LacksReactant net r c → ⊥) → alone r u ∷ [] ≡ with_greatest net r c
   kept_at u eu all = ap (λ v. alone r v ∷ []) eu ∙ sym (present_turn (positive all))

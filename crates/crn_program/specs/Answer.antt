@@ -40,12 +40,16 @@ pub record ReportsCompletion (net : Network) (f : List ℚ → ℚ) (amounts : L
   pub run : Run net (start net amounts) (completion net (start net amounts)) (completed net (start net amounts))
   pub settled : IsSettled net (completed net (start net amounts)) (f (encoded net.rails amounts))
 
+-- what `complete` answers to a job with these amounts
+abbrev pub JobAnswers : List ℚ → Status → List ℕ → Type 0
+JobAnswers amounts Done text = ReportsCompletion minimum lesser amounts text
+JobAnswers amounts TooBig text = (AllFits minimum (start minimum amounts) → ⊥) × (text ≡ refusal (codes "too big"))
+JobAnswers amounts _ text = ⊥
+
 -- what `complete` answers to a text
 abbrev pub CompleteAnswers : List ℕ → Status → List ℕ → Type 0
-CompleteAnswers bytes Done text = (amounts : List ℚ) × IsJob bytes amounts × ReportsCompletion minimum lesser amounts text
-CompleteAnswers bytes TooBig text = (amounts : List ℚ) × IsJob bytes amounts × (AllFits minimum (start minimum amounts) → ⊥) × (text ≡ refusal (codes "too big"))
 CompleteAnswers bytes NotBuilt text = ((amounts : List ℚ) → IsJob bytes amounts → ⊥) × (text ≡ refusal (codes "form not built"))
-CompleteAnswers bytes _ text = ⊥
+CompleteAnswers bytes status text = (amounts : List ℚ) × IsJob bytes amounts × JobAnswers amounts status text
 
 -- ---- every command
 

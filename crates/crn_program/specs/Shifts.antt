@@ -1,5 +1,5 @@
 -- One side of a reaction after another, applied to the amounts in place. The laws of proofs/Turning say that both sides together are one step.
-use Rattle.std.specs.Prelude.{ℕ, ◌-◌, List, [], ◌∷◌, ℤ, pos, neg_ℤ, slice_set, map, Option, Bool, false, ◌||◌, ◌<◌, ◌≤◌, ◌≡◌}
+use Rattle.std.specs.Prelude.{ℕ, ◌-◌, List, [], ◌∷◌, ℤ, pos, neg_ℤ, slice_set, map, Option, None, Some, Bool, false, ◌||◌, ◌<◌, ◌≤◌, ◌≡◌}
 use Rattle.std.specs.Option.{option_to_list}
 use Rattle.crn_fraction.specs.Rational.{ℚ, 0ℚ, ◌+ℚ◌, ◌*ℚ◌, ◌/ℚ◌, ◌≤ℚ◌, whole, is_zero_ℚ}
 use Rattle.crn_fraction.specs.Frac.{IsFrac}
@@ -59,7 +59,12 @@ abbrev pub PartsFit : (ℕ → ℚ) → List Part → Type 0
 PartsFit m [] = Unit {0}
 PartsFit m (p ∷ ps) = IsFrac (quotient_at m p) × PartsFit m ps
 
--- the segment of reaction r, where it has a flux
+-- the flow of reaction r, where it has a flux
+abbrev pub turn_flows : ℕ → Option ℚ → List Flow
+turn_flows r None = []
+turn_flows r (Some u) = alone r u
+
+-- its segment
 abbrev pub turn_segments : ℕ → Option ℚ → List (List Flow)
 turn_segments r kept = map (alone r) (option_to_list kept)
 

@@ -1,6 +1,8 @@
 ghost use Rattle.std.specs.Prelude.{ℕ, List, map, ◌≡◌, ◌⊎◌, string_bytes, IfOk, IfSome, IfNone, OnOk, IsErrOf};
 ghost use Rattle.crn_io.specs.Causes.{Rose};
-ghost use Rattle.crn_program.specs.Answer.{IsRow, IsNoRow, Answers, CompleteAnswers, CommandAnswers};
+ghost use Rattle.crn_program.specs.Answer.{IsRow, IsNoRow, Answers, JobAnswers, CommandAnswers};
+ghost use Rattle.crn_net.specs.Minimum.{minimum};
+ghost use Rattle.crn_net.specs.Network.{AreAmounts};
 ghost use Rattle.crn_program.specs.Report.{refusal};
 ghost use Rattle.crn_program.specs.Told.{AnswersTo, TakesText};
 
@@ -65,7 +67,10 @@ fn refusal(alloc: Global, why: &str) -> Result<String, AllocError>
 }
 
 // What `complete` answers to a job with these amounts.
-fn job_answer(alloc: Global, amounts: [Frac; 4]) -> Result<(Status, String), AllocError> {
+fn job_answer(alloc: Global, amounts: [Frac; 4]) -> Result<(Status, String), AllocError>
+    requires { AreAmounts minimum amounts }
+    ensures { IfOk result (λ answer. JobAnswers amounts answer.0 (string_bytes answer.1)) }
+{
     let network = minimum(alloc)?;
     match complete(alloc, &network, start(alloc, amounts)?) {
         Ok(Completion { flows, end }) => {
@@ -108,9 +113,7 @@ fn text_answer<S: Source>(
 {
     match read_all(alloc, source, TEXT_LIMIT) {
         Ok(bytes) => Ok(command_answer(alloc, command, &bytes)?),
-        Err(ReadAllError::TooLong) => {
-            Ok((Status::NotBuilt, refusal(alloc, "form not built")?))
-        }
+        Err(ReadAllError::TooLong) => { Ok((Status::NotBuilt, refusal(alloc, "form not built")?)) }
         Err(ReadAllError::Fault) => Err(Stop::ReadFault),
         Err(ReadAllError::Memory) => Err(Stop::Memory),
     }

@@ -1,4 +1,4 @@
-ghost use Rattle.std.specs.Prelude.{◌≡◌, ◌+◌, ◌≤◌, ◌<◌, ◌<ℤ◌, pos, neg_ℤ, length, IfOk, OnOk, IsErrOf, MatchResult};
+ghost use Rattle.std.specs.Prelude.{◌≡◌, ◌++◌, ◌+◌, ◌≤◌, ◌<◌, ◌<ℤ◌, pos, neg_ℤ, length, IfOk, OnOk, IsErrOf, MatchResult};
 ghost use Rattle.std.specs.Result.{OkIff};
 ghost use Rattle.crn_fraction.specs.Rational.{0ℚ, ◌+ℚ◌, ◌≤ℚ◌, whole};
 ghost use Rattle.crn_fraction.specs.Frac.{IsFrac};
@@ -6,7 +6,7 @@ ghost use Rattle.crn_net.specs.Network.{IsNetwork, IsState, AreParts, amount, af
 ghost use Rattle.crn_net.specs.Views.{part_of, parts_of, natural};
 ghost use Rattle.crn_segments.specs.Fits.{TurnFits, CompletionFits};
 ghost use Rattle.crn_program.specs.Report.{each_alone};
-ghost use Rattle.crn_program.specs.Shifts.{signed, moved, after_part, after_parts, quotient_at, IsPart, SumFits, SumsFit, SumsStay, PartsFit, turn_segments, HasApartSides, lacks};
+ghost use Rattle.crn_program.specs.Shifts.{signed, moved, after_part, after_parts, quotient_at, IsPart, SumFits, SumsFit, SumsStay, PartsFit, turn_flows, turn_segments, HasApartSides, lacks};
 
 use crn_fraction::{Frac, TooBig};
 use crn_net::{Network, Part};
@@ -49,11 +49,7 @@ pub struct Completion {
 }
 
 /// Each reaction in ascending order, alone with the greatest flux that its reactants allow.
-pub fn complete(
-    alloc: Global,
-    network: &Network,
-    start: State,
-) -> Result<Completion, Incomplete>
+pub fn complete(alloc: Global, network: &Network, start: State) -> Result<Completion, Incomplete>
     requires state { IsState network.now start }
     requires apart { HasApartSides network.now }
     ensures flows { IfOk result (λ found. each_alone found.flows.items ≡ completion network.now start) }
@@ -64,15 +60,21 @@ pub fn complete(
     let mut flows = Vec::with_capacity(alloc, network.reaction_count() as usize)?;
     let mut end = start;
     for index in 0..network.reaction_count() {
-        if let Some(flux) = take_turn(network, index + 1, &mut end)? {
-            let flow = Flow {
-                reaction: u64::from(index) + 1,
-                flux,
-            };
-            flows.push(flow).map_err(AllocError::from)?;
-        }
+        let kept = take_turn(network, index + 1, &mut end)?;
+        keep(&mut flows, index + 1, kept)?;
     }
     Ok(Completion { flows, end })
+}
+
+// Appends the flow of a reaction that happened.
+fn keep(flows: &mut Vec<Flow>, reaction: u32, kept: Option<Frac>) -> Result<(), AllocError>
+    ensures { OnOk result (flows.new.items ≡ flows.old.items ++ turn_flows reaction kept) }
+{
+    if let Some(flux) = kept {
+        let reaction = u64::from(reaction);
+        flows.push(Flow { reaction, flux })?;
+    }
+    Ok(())
 }
 
 // Applies a reaction with its greatest flux, where no reactant is absent.

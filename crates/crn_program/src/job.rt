@@ -1,5 +1,7 @@
-ghost use Rattle.std.specs.Prelude.{ℕ, ◌≡◌, ◌↔◌, ◌<◌, ◌^◌, length, Option, Some, None, IfSome, IfNone, IsTrue};
+ghost use Rattle.std.specs.Prelude.{ℕ, List, ◌≡◌, ◌↔◌, ◌<◌, ◌^◌, length, Option, Some, None, IfSome, IfNone, IsTrue};
 ghost use Rattle.std.specs.Option.{option_map};
+ghost use Rattle.crn_fraction.specs.Rational.{ℚ};
+ghost use Rattle.crn_program.specs.JobText.{IsJob};
 ghost use Rattle.std.specs.List.{list_all};
 ghost use Rattle.std.specs.Char.{is_ascii_digit};
 ghost use Rattle.crn_program.specs.Reading.{after_front, digit_count, fitting_value, number_of, read_number, quotient, IsQuotient, read_amount, read_amount_and, read_input, four_amounts, read_job};
@@ -138,12 +140,20 @@ fn four_amounts(first: Input, second: Input, rest: &[u8]) -> Option<[Frac; 4]>
     }
 }
 
-/// The amounts of the two inputs, plus before minus, where the text is a job.
-pub fn read_job(text: &[u8]) -> Option<[Frac; 4]>
+// The amounts that are read from left to right.
+fn read_amounts(text: &[u8]) -> Option<[Frac; 4]>
     ensures { result ≡ read_job text.now }
 {
     let text = after_front(text, FUNCTION_LINES)?;
     let (first, text) = read_input(text)?;
     let (second, text) = read_input(text)?;
     four_amounts(first, second, text)
+}
+
+/// The amounts of the two inputs, plus before minus, where the text is a job.
+pub fn read_job(text: &[u8]) -> Option<[Frac; 4]>
+    ensures job { IfSome result (λ amounts. IsJob text.now amounts) }
+    ensures none { IfNone result ((amounts : List ℚ) → IsJob text.now amounts → ⊥) }
+{
+    read_amounts(text)
 }

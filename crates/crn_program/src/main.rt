@@ -10,10 +10,9 @@ use answer::{Stop, answer};
 use crn_io::{Failed, Sink, Source, StdSink, StdSource, write_all};
 use status::Status;
 use std::alloc::{AllocError, Global};
-use std::env;
-use std::io;
 use std::process::ExitCode;
 use std::rt::Env;
+use std::{env, io};
 
 mod answer;
 mod completion;
@@ -71,3 +70,6 @@ fn main(rt: HostRuntime) -> ExitCode {
     };
     ExitCode::from(status.number())
 }
+
+#[cfg(test)]
+mod tests;

@@ -35,8 +35,7 @@ fn reaction(alloc: Global, takes: &[u32], gives: &[u32]) -> Result<Reaction, All
 fn reactions(alloc: Global) -> Result<Vec<Reaction>, AllocError>
     ensures { IfOk result (λ made. reactions_of made.items ≡ minimum.reactions) }
 {
-    Ok(vec![
-        in alloc;
+    Ok(vec![in alloc;
         reaction(alloc, &[1], &[5])?,
         reaction(alloc, &[2], &[6])?,
         reaction(alloc, &[3], &[7])?,

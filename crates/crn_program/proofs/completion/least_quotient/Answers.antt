@@ -23,8 +23,8 @@ loop-part-preserved c =
     let is : c.in_ok-quotient.quotient ≡ quotient_at m p = c.in_ok-quotient.ensures.1 in
     let fits : IsFrac (quotient_at m p) = c.in_ok-quotient.ensures.0 in
     elim c.match-least.branch [
-      in-None w ↦ subst (λ a. SoFar m all left (Some a)) (sym (w.least-is ∙ is)) (so_far_first m all left p fits c.loop-part.least so w.in-None.is)
-    | in-Some w ↦
-        subst (λ a. SoFar m all left (Some a)) (sym (w.least-is ∙ w.least.ensures ∙ ap (min_ℚ w.in-Some.least) is))
+      | in-None w ↦ subst (λ a. SoFar m all left (Some a)) (sym (w.least-is ∙ is)) (so_far_first m all left p fits c.loop-part.least so w.in-None.is)
+      | in-Some w ↦
+          subst (λ a. SoFar m all left (Some a)) (sym (w.least-is ∙ w.least.ensures ∙ ap (min_ℚ w.in-Some.least) is))
           (so_far_more m all left p fits c.loop-part.least w.in-Some.least so w.in-Some.is)
     ]

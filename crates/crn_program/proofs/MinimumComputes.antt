@@ -1,0 +1,101 @@
+-- The network of the minimum of two variables stably computes the lesser of them.
+use Rattle.std.proofs.Common.{◌≡◌, ℕ, ◌<◌, ◌≤◌, List, [], ◌∷◌, length, pos, refl, sym, ap, ap₂, ◌∙◌, subst, ⊎_elim, arith}
+use Rattle.std.proofs.lemmas.Bool.{cases_lt}
+use Rattle.std.proofs.lemmas.Int.{ints, clamps}
+use Rattle.crn_fraction.specs.Rational.{ℚ, 0ℚ, ◌+ℚ◌, ◌-ℚ◌, ◌*ℚ◌, ◌/ℚ◌, ◌≤ℚ◌, whole, min_ℚ}
+use Rattle.crn_fraction.proofs.Order.{linear}
+use Rattle.crn_fraction.proofs.Products.{/ℚ-one, whole_nonneg}
+use Rattle.crn_fraction.proofs.Ratios.{by_common_4}
+use Rattle.crn_fraction.proofs.Ring.{zero-*ℚ, +ℚ-zero, one-*ℚ, zero-+ℚ}
+use Rattle.crn_net.specs.Minimum.{minimum}
+use Rattle.crn_net.specs.Network.{Network, amount, start, AreAmounts, AreNotNegative, IsNetwork, IsFeedForward, IsState, StablyComputes, taken, given, completed, completion, encoded, value_at, Run}
+use Rattle.crn_net.specs.Totals.{made_by, AreUntaken}
+use Rattle.crn_net.specs.declared.Flow.{Flow}
+use Rattle.crn_net.proofs.Computes.{computes_made}
+use Rattle.crn_net.proofs.Exhausted.{length-after_all}
+use Rattle.crn_net.proofs.FeedForward.{untaken}
+use Rattle.crn_net.proofs.MinimumRun.{minimum_is_network, minimum_feeds_forward}
+use Rattle.crn_net.proofs.Settling.{completes}
+use Rattle.crn_net.proofs.Start.{start_is_state, start_not_negative}
+use Rattle.crn_segments.proofs.Amounts.{quotient_not_negative}
+use Rattle.crn_segments.specs.Fits.{CompletionFits}
+use Rattle.crn_program.specs.Answer.{lesser, AllFits, ReportsCompletion}
+use Rattle.crn_program.specs.JobText.{IsJob, Numeral, Whole, Over, IsNumeral, numeral_value}
+use Rattle.crn_program.specs.Report.{each_alone, completion_report, OutputFits}
+use Rattle.crn_program.specs.Shifts.{HasApartSides}
+
+-- crossed sums less what was added
+crossed : (a b c d : ℚ) → min_ℚ (a +ℚ d) (c +ℚ b) -ℚ (d +ℚ b) ≡ min_ℚ (a -ℚ b) (c -ℚ d)
+crossed = by_common_4 (λ a b c d. min_ℚ (a +ℚ d) (c +ℚ b) -ℚ (d +ℚ b) ≡ min_ℚ (a -ℚ b) (c -ℚ d)) (λ e p x y z v. simp linear (omega (arith, ints, clamps)))
+
+made_plus : (a b c d : ℚ) → made_by minimum.reactions (amount (a ∷ b ∷ c ∷ d ∷ 0ℚ ∷ 0ℚ ∷ 0ℚ ∷ 0ℚ ∷ 0ℚ ∷ 0ℚ ∷ 0ℚ ∷ 0ℚ ∷ 0ℚ ∷ 0ℚ ∷ 0ℚ ∷ 0ℚ ∷ [])) 15 ≡ min_ℚ (a +ℚ d) (c +ℚ b)
+made_plus a b c d = simp (zero-*ℚ, +ℚ-zero, one-*ℚ, /ℚ-one, zero-+ℚ)
+
+made_minus : (a b c d : ℚ) → made_by minimum.reactions (amount (a ∷ b ∷ c ∷ d ∷ 0ℚ ∷ 0ℚ ∷ 0ℚ ∷ 0ℚ ∷ 0ℚ ∷ 0ℚ ∷ 0ℚ ∷ 0ℚ ∷ 0ℚ ∷ 0ℚ ∷ 0ℚ ∷ 0ℚ ∷ [])) 16 ≡ d +ℚ b
+made_minus a b c d = simp (zero-*ℚ, +ℚ-zero, one-*ℚ, /ℚ-one, zero-+ℚ)
+
+outputs_untaken : AreUntaken minimum minimum.output
+outputs_untaken = (untaken minimum 15 refl, untaken minimum 16 refl)
+
+made_value : (a b c d : ℚ) → value_at minimum.output (made_by minimum.reactions (amount (start minimum (a ∷ b ∷ c ∷ d ∷ [])))) ≡ min_ℚ (a -ℚ b) (c -ℚ d)
+unfolding start
+made_value a b c d = ap₂ (λ x y. x -ℚ y) (made_plus a b c d) (made_minus a b c d) ∙ crossed a b c d
+
+-- from every start, and after every run from it
+pub minimum_computes : (xs : List ℚ) → AreAmounts minimum xs → StablyComputes minimum xs (lesser (encoded minimum.rails xs))
+minimum_computes (a ∷ b ∷ c ∷ d ∷ []) ok =
+    let xs = a ∷ b ∷ c ∷ d ∷ [] in
+    subst (StablyComputes minimum xs) (made_value a b c d) (computes_made minimum minimum_is_network minimum_feeds_forward outputs_untaken xs (start_not_negative minimum xs ok.not_negative))
+minimum_computes [] ok = absurd (omega (arith, ok.long))
+minimum_computes (a ∷ []) ok = absurd (omega (arith, ok.long))
+minimum_computes (a ∷ b ∷ []) ok = absurd (omega (arith, ok.long))
+minimum_computes (a ∷ b ∷ c ∷ []) ok = absurd (omega (arith, ok.long))
+minimum_computes (a ∷ b ∷ c ∷ d ∷ e ∷ xs) ok = absurd (omega (arith, ok.long))
+
+-- a network that feeds forward gives nothing that it takes
+sides_apart : (net : Network) → IsFeedForward net → HasApartSides net
+sides_apart net ff r s some =
+    ⊎_elim (λ (given_too : 0 < given net r s). let before : r < r = ff.givers_first r r s given_too some in absurd (omega (arith, before))) (λ (none : given net r s ≤ 0). omega arith) (cases_lt 0 (given net r s))
+
+-- ---- the amounts of a job
+
+numeral_not_negative : (w : Numeral) → IsNumeral w → 0ℚ ≤ℚ numeral_value w
+numeral_not_negative (Whole n) ok = whole_nonneg n
+numeral_not_negative (Over n d) ok = quotient_not_negative n d ok.2
+
+pub job_amounts : (text : List ℕ) (amounts : List ℚ) → IsJob text amounts → AreAmounts minimum amounts
+job_amounts text amounts job =
+    subst (AreAmounts minimum) (sym job.values) (record {
+      long = refl;
+      not_negative = (numeral_not_negative job.plus_1 job.numerals.0, (numeral_not_negative job.minus_1 job.numerals.1, (numeral_not_negative job.plus_2 job.numerals.2, (numeral_not_negative job.minus_2 job.numerals.3, tt))));
+    })
+
+-- ---- as the code has it
+
+pub state_at : (net : Network) (c xs : List ℚ) → net ≡ minimum → c ≡ start minimum xs → AreNotNegative xs → IsState net c
+state_at net c xs e f ok = subst (λ n. IsState n c) (sym e) (subst (IsState minimum) (sym f) (start_is_state minimum xs ok))
+
+pub apart_at : (net : Network) → net ≡ minimum → HasApartSides net
+apart_at net e = subst HasApartSides (sym e) (sides_apart minimum minimum_feeds_forward)
+
+pub end_long : (net : Network) (c d : List ℚ) → IsState net c → d ≡ completed net c → length d ≡ net.species
+end_long net c d state is = ap length is ∙ length-after_all net (completion net c) c state.long
+
+reported_minimum : (xs : List ℚ) (text : List ℕ) → AreAmounts minimum xs → AllFits minimum (start minimum xs) →
+    text ≡ completion_report minimum (start minimum xs) (completion minimum (start minimum xs)) (completed minimum (start minimum xs)) → ReportsCompletion minimum lesser xs text
+reported_minimum xs text ok fits is =
+    let complete = completes minimum minimum_is_network minimum_feeds_forward (start minimum xs) (start_is_state minimum xs ok.not_negative) in
+    record { fits = fits; report = is; run = complete.run; settled = (minimum_computes xs ok).settles [] (start minimum xs) refl }
+
+pub reported : (net : Network) (c e d xs : List ℚ) (flows : List Flow) (text : List ℕ) → net ≡ minimum → c ≡ start minimum xs → e ≡ start minimum xs → AreAmounts minimum xs →
+    CompletionFits net c → OutputFits net.output d → each_alone flows ≡ completion net c → d ≡ completed net c → text ≡ completion_report net e (each_alone flows) d → ReportsCompletion minimum lesser xs text
+reported net c e d xs flows text same starts again ok fits output kept ends is =
+    let first = start minimum xs in
+    let last : d ≡ completed minimum first = ends ∙ ap₂ completed same starts in
+    reported_minimum xs text ok
+    (record {
+      completion = subst (λ n. CompletionFits n first) same (subst (CompletionFits net) starts fits);
+      output = subst (OutputFits minimum.output) last (subst (λ n. OutputFits n.output d) same output);
+    })
+    (is ∙ ap₂ (λ n s. completion_report n s (each_alone flows) d) same again
+    ∙ ap₂ (completion_report minimum first) (kept ∙ ap₂ completion same starts) last)
