@@ -1,0 +1,4 @@
+pub mod Padding
+pub mod Signs
+pub mod Sums
+pub mod Values
