@@ -1,9 +1,11 @@
 -- The cleared row of a form: its positive multiple with whole entries that have no common divisor but 1, or the zero row.
-use Rattle.std.specs.Prelude.{◌≡◌, ◌⊎◌, ℕ, ◌*◌, ◌/◌, ℤ, pos, ◌≤◌, ◌^◌, unsigned_abs, List, [], ◌∷◌, map, cond}
+use Rattle.std.specs.Prelude.{◌≡◌, ◌⊎◌, ℕ, ◌*◌, ◌/◌, ◌<◌, ◌≤◌, ◌^◌, ℤ, pos, ◌*ℤ◌, unsigned_abs, List, [], ◌∷◌, map, cond}
 use Rattle.std.specs.List.{All, fold}
 use Rattle.std.specs.Int.{◌∣◌}
 use Rattle.crn_fraction.specs.Gcd.{gcd}
-use Rattle.crn_fraction.specs.Rational.{ℚ, ratio, whole, 0ℚ, ◌*ℚ◌, ◌/ℚ◌, ◌<ℚ◌, is_zero_ℚ}
+use Rattle.crn_fraction.specs.Rational.{ℚ, IsLowest, ratio, whole, 0ℚ, ◌*ℚ◌, ◌/ℚ◌, ◌<ℚ◌, is_zero_ℚ}
+use Rattle.crn_fraction.specs.Parts.{ratio_lowest}
+use Rattle.std.proofs.Common.{ap}
 use Rattle.crn_linear.specs.Forms.{wholes}
 
 -- the row is the form times a number above 0
@@ -43,9 +45,30 @@ common_den xs = fold (λ m x. lcm m x.den) 1 xs
 abbrev pub unit_of : List ℚ → List ℚ
 unit_of form = map (λ x. x /ℚ pivot form) form
 
+-- the numerator over a multiple of the denominator
+abbrev pub numerator_over : ℕ → ℚ → ℤ
+numerator_over m x = x.num *ℤ pos (m / x.den)
+
 -- the numerators over the least common denominator
 abbrev pub numerators : List ℚ → List ℤ
-numerators xs = map (λ x. (whole (pos (common_den xs)) *ℚ x).num) xs
+numerators xs = map (numerator_over (common_den xs)) xs
 
+-- the cleared row: the numerators of the form over its first entry that is not 0
 unfoldable pub cleared : List ℚ → List ℤ
 cleared form = numerators (unit_of form)
+
+-- ---- sizes
+-- both parts are at most 2 ^ 59 in size
+pub record IsSmallFrac (q : ℚ) : Type 0 where
+  pub num_small : unsigned_abs q.num ≤ 2 ^ 59
+  pub den_small : q.den ≤ 2 ^ 59
+
+-- a fraction with a numerator and a denominator of 127 bits
+pub record IsWide (num : ℤ) (den : ℕ) : Type 0 where
+  pub lowest : IsLowest num den
+  pub num_fits : unsigned_abs num < 2 ^ 127
+  pub den_fits : den < 2 ^ 127
+
+-- what is kept are the parts of the number
+pub wide_parts : (n : ℤ) (d : ℕ) → IsWide n d → ((ratio n d).num ≡ n) × ((ratio n d).den ≡ d)
+wide_parts n d w = let e = ratio_lowest n d w.lowest in (ap (λ q. q.num) e, ap (λ q. q.den) e)

@@ -15,6 +15,9 @@ use crn_fraction::{Frac, TooBig};
 use std::cmp::Ordering;
 use std::marker::Model;
 
+/// The greatest size of an entry of a row or a point.
+const LIMIT: u128 = 1 << 59;
+
 /// What a row asks of a point: that the sum of the products of their numbers is at least 0, or that it is above 0.
 #[derive(Clone, Copy, Debug, PartialEq, Eq, Hash)]
 pub enum Strength {
@@ -233,6 +236,269 @@ pub fn opposite(row: &Row, strength: Strength) -> Row
         len: row.len(),
         strength,
     }
+}
+
+ghost use Rattle.std.specs.Prelude.{int_div, ◌<ℤ◌, MatchOption};
+ghost use Rattle.crn_fraction.specs.Gcd.{gcd};
+ghost use Rattle.crn_fraction.specs.Rational.{ratio, 0ℚ, ◌-ℚ◌, ◌/ℚ◌};
+ghost use Rattle.crn_linear.specs.Forms.{minus};
+ghost use Rattle.crn_linear.specs.Cleared.{pivot, size_ℚ, lcm, common_den, unit_of, numerator_over, numerators, cleared, IsSmallFrac};
+
+/// The row of a form: its positive multiple whose entries are whole with greatest common divisor 1, or the zero row. It is
+/// refused where an entry passes 2^59 in size.
+pub fn row_of(form: &Form, strength: Strength) -> Result<Row, TooBig>
+    ensures { OkIff result (AreSmall (cleared form.now)) (row_with (cleared form.now) strength) }
+{
+    let nothing = Form {
+        coeffs: [Frac::ZERO; 9],
+        len: form.len(),
+    };
+    difference_row(form, &nothing, strength)
+}
+
+/// The row of the exact difference of two forms, whose coefficients need not fit a fraction.
+pub fn difference_row(a: &Form, b: &Form, strength: Strength) -> Result<Row, TooBig>
+    requires { length a.now ≡ length b.now }
+    ensures { OkIff result (AreSmall (cleared (minus a.now b.now))) (row_with (cleared (minus a.now b.now)) strength) }
+{
+    let units = units_of(a, b)?;
+    let common = common_den(&units)?;
+    numerators(&units, common, strength)
+}
+
+// The exact difference of two fractions, in parts of 127 bits.
+#[derive(Clone, Copy)]
+struct Wide {
+    num: i128,
+    den: u128,
+}
+
+impl Model for Wide {
+    ghost use Rattle.crn_fraction.specs.Rational.{ℚ, ratio};
+    ghost use Rattle.crn_fraction.specs.Frac.{coded_ℚ};
+    ghost use Rattle.crn_linear.specs.Cleared.{IsWide, wide_parts};
+
+    ghost Value = { ℚ };
+
+    ghost coded = { coded_ℚ };
+
+    ghost view = { λ w. ratio w.num w.den };
+
+    ghost invariant = { λ w. IsWide w.num w.den };
+
+    ghost inverse = { λ q. record { num = q.num; den = q.den } };
+
+    ghost inverse_ok = { λ w kept. λ i. record { num = (wide_parts w.num w.den kept).0 i; den = (wide_parts w.num w.den kept).1 i } };
+}
+
+impl Wide {
+    fn num(self) -> i128
+        ensures value { result ≡ self.num }
+        ensures small { unsigned_abs result < 2 ^ 127 }
+    {
+        self.num
+    }
+
+    fn den(self) -> u128
+        ensures value { result ≡ self.den }
+        ensures positive { 0 < result }
+        ensures small { result < 2 ^ 127 }
+    {
+        self.den
+    }
+
+    fn of(num: i128, den: u128) -> Wide
+        requires positive { 0 < den }
+        requires num_small { unsigned_abs num < 2 ^ 127 }
+        requires den_small { den < 2 ^ 127 }
+        ensures { result ≡ ratio num den }
+    {
+        let (num, den) = lowest_terms(num, den);
+        Wide { num, den }
+    }
+
+    fn difference(a: Frac, b: Frac) -> Wide
+        ensures { result ≡ a -ℚ b }
+    {
+        Wide::of(cross(a, b) - cross(b, a), shared_den(a, b))
+    }
+
+    // The number without its sign.
+    fn size(self) -> Wide
+        ensures { result ≡ size_ℚ self }
+    {
+        Wide::of(self.num().abs(), self.den())
+    }
+
+    // The quotient by a number above 0, where both of its parts are at most 2^59.
+    fn over(self, pivot: Wide) -> Result<Frac, TooBig>
+        requires { pos 0 <ℤ pivot.num }
+        ensures { OkIff result (IsSmallFrac (self /ℚ pivot)) (self /ℚ pivot) }
+    {
+        let (num, pivot_num) = lowest_terms(self.num(), pivot.num() as u128);
+        let (pivot_den, den) = lowest_terms(pivot.den() as i128, self.den());
+        let Some(low_num) = small_product(num, pivot_den) else {
+            return Err(TooBig);
+        };
+        let Some(low_den) = small_product(pivot_num as i128, den as i128) else {
+            return Err(TooBig);
+        };
+        Frac::of(low_num, low_den)
+    }
+}
+
+// The numerator of the first over the denominator of both.
+fn cross(a: Frac, b: Frac) -> i128
+    ensures value { result ≡ a.num *ℤ pos b.den }
+    ensures small { unsigned_abs result < 2 ^ 126 }
+{
+    long_product(a.num(), b.den())
+}
+
+fn shared_den(a: Frac, b: Frac) -> u128
+    ensures value { result ≡ a.den * b.den }
+    ensures positive { 0 < result }
+    ensures small { result < 2 ^ 126 }
+{
+    a.den() as u128 * b.den() as u128
+}
+
+fn long_product(a: i64, b: i64) -> i128
+    ensures value { result ≡ a *ℤ b }
+    ensures small { unsigned_abs result ≤ 2 ^ 126 }
+{
+    a as i128 * b as i128
+}
+
+// The size of the first difference that is not 0, and 1 where there is none.
+fn pivot(a: &Form, b: &Form) -> Wide
+    requires { length a.now ≡ length b.now }
+    ensures value { result ≡ pivot (minus a.now b.now) }
+    ensures positive { pos 0 <ℤ result.num }
+{
+    for i in 0..a.len() {
+        let difference = Wide::difference(a.coeff(i), b.coeff(i));
+        if difference.num() != 0 {
+            return difference.size();
+        }
+    }
+    Wide::of(1, 1)
+}
+
+// The differences over the first that is not 0, in size.
+fn units_of(a: &Form, b: &Form) -> Result<Form, TooBig>
+    requires { length a.now ≡ length b.now }
+    ensures { OkIff result (All IsSmallFrac (unit_of (minus a.now b.now))) (unit_of (minus a.now b.now)) }
+{
+    let pivot = pivot(a, b);
+    let mut units = [Frac::ZERO; 9];
+    for i in 0..a.len() {
+        let difference = Wide::difference(a.coeff(i), b.coeff(i));
+        let unit = difference.over(pivot)?;
+        units[i] = unit;
+    }
+    Ok(Form {
+        coeffs: units,
+        len: a.len(),
+    })
+}
+
+// The least common denominator, where it is at most 2^59.
+fn common_den(units: &Form) -> Result<u64, TooBig>
+    requires { All IsSmallFrac units.now }
+    ensures { OkIff result (common_den units.now ≤ 2 ^ 59) (common_den units.now) }
+{
+    let mut common = 1u64;
+    for i in 0..units.len() {
+        let den = units.coeff(i).den() as u64;
+        let shared = short_gcd(common, den);
+        let multiple = (common / shared) as u128 * den as u128;
+        if multiple > LIMIT {
+            return Err(TooBig);
+        }
+        common = multiple as u64;
+    }
+    Ok(common)
+}
+
+// The row of the numerators over a common denominator.
+fn numerators(units: &Form, common: u64, strength: Strength) -> Result<Row, TooBig>
+    requires fractions { All IsSmallFrac units.now }
+    requires denominator { common ≡ common_den units.now }
+    requires small { common ≤ 2 ^ 59 }
+    ensures { OkIff result (AreSmall (numerators units.now)) (row_with (numerators units.now) strength) }
+{
+    let mut entries = [0i64; 9];
+    for i in 0..units.len() {
+        let unit = units.coeff(i);
+        let rest = common / unit.den() as u64;
+        let Some(entry) = small_product(unit.num() as i128, rest as i128) else {
+            return Err(TooBig);
+        };
+        entries[i] = entry;
+    }
+    Ok(Row {
+        entries,
+        len: units.len(),
+        strength,
+    })
+}
+
+// The product, where it is at most 2^59 in size.
+fn small_product(a: i128, b: i128) -> Option<i64>
+    ensures { MatchOption result (2 ^ 59 < unsigned_abs (a *ℤ b)) (λ r. (r ≡ a *ℤ b) × (unsigned_abs (a *ℤ b) ≤ 2 ^ 59)) }
+{
+    let product = a.checked_mul(b)?;
+    if product.unsigned_abs() > LIMIT {
+        return None;
+    }
+    Some(product as i64)
+}
+
+// Both parts of `num / den` in lowest terms.
+fn lowest_terms(num: i128, den: u128) -> (i128, u128)
+    requires positive { 0 < den }
+    requires small { den < 2 ^ 127 }
+    ensures num { result.0 ≡ (ratio num den).num }
+    ensures den { result.1 ≡ (ratio num den).den }
+    ensures small_num { unsigned_abs result.0 ≤ unsigned_abs num }
+    ensures small_den { result.1 ≤ den }
+{
+    let common = gcd(num.unsigned_abs(), den);
+    if common == 1 {
+        return (num, den);
+    }
+    (num / common as i128, den / common)
+}
+
+// The greatest common divisor, in 64 bits from where they suffice.
+fn gcd(a: u128, b: u128) -> u128
+    ensures { result ≡ gcd a b }
+{
+    let mut x = a;
+    let mut y = b;
+    while y > u64::MAX as u128 {
+        let rest = x % y;
+        x = y;
+        y = rest;
+    }
+    if y == 0 {
+        return x;
+    }
+    short_gcd(y as u64, (x % y) as u64) as u128
+}
+
+fn short_gcd(a: u64, b: u64) -> u64
+    ensures { result ≡ gcd a b }
+{
+    let mut x = a;
+    let mut y = b;
+    while y != 0 {
+        let rest = x % y;
+        x = y;
+        y = rest;
+    }
+    x
 }
 
 fn product(a: i64, b: i64) -> i128
