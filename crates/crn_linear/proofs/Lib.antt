@@ -6,3 +6,4 @@ pub mod Denominators
 pub mod Units
 pub mod Wides
 pub mod Minus
+pub mod Multiples

@@ -79,9 +79,10 @@ negative_size x p = ap (λ n. ratio n x.den) (down x.num p)
     down : (n : ℤ) → n <ℤ pos 0 → pos (unsigned_abs n) ≡ neg_ℤ n
     down n h = omega (arith, ints)
 
-record IsSign (u : ℚ) : Type 0 where
-  size : unsigned_abs u.num ≡ 1
-  den : u.den ≡ 1
+-- 1 or -1
+pub record IsSign (u : ℚ) : Type 0 where
+  pub size : unsigned_abs u.num ≡ 1
+  pub den : u.den ≡ 1
 
 one_is_sign : (n : ℤ) (u : ℚ) → unsigned_abs n ≡ 1 → u ≡ whole n → IsSign u
 one_is_sign n u h e = record { size = ap (λ q. unsigned_abs q.num) e ∙ ap unsigned_abs (num-whole n) ∙ h; den = ap (λ q. q.den) e ∙ den-whole n }
@@ -111,6 +112,10 @@ length-unit_of form = length-map form (λ x. x /ℚ pivot form)
 
 pub entry-unit_of : (form : List ℚ) (i : ℕ) → i < length form → entry_of (unit_of form) i ≡ entry_of form i /ℚ pivot form
 entry-unit_of form i h = lists.get_or-map (λ x. x /ℚ pivot form) form i 0ℚ 0ℚ h
+
+-- the first entry that is not 0 becomes 1 or -1
+pub unit_sign : (form : List ℚ) (i : ℕ) → i < length form → entry_of form i ≢ 0ℚ → pivot form ≡ size_ℚ (entry_of form i) → IsSign (entry_of (unit_of form) i)
+unit_sign form i h n e = subst IsSign (sym (entry-unit_of form i h ∙ ap (λ p. entry_of form i /ℚ p) e)) (over_size (entry_of form i) n)
 
 pub length-numerators : (xs : List ℚ) → length (numerators xs) ≡ length xs
 length-numerators xs = length-map xs (numerator_over (common_den xs))
@@ -154,7 +159,7 @@ common_den-small form s =
     (λ (some : (i : ℕ) × (i < length form) × (entry_of form i ≢ 0ℚ) × (pivot form ≡ size_ℚ (entry_of form i))).
       let i = some.0 in
       let u = entry_of (unit_of form) i in
-      let sign : IsSign u = subst IsSign (sym (entry-unit_of form i some.1 ∙ ap (λ p. entry_of form i /ℚ p) some.3)) (over_size (entry_of form i) some.2) in
+      let sign : IsSign u = unit_sign form i some.1 some.2 some.3 in
       let small = entry_small form i s some.1 in
       by_one (unsigned_abs u.num) u.den (common_den (unit_of form)) sign.size sign.den small)
     (pivot_cases form)

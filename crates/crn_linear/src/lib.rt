@@ -238,11 +238,17 @@ pub fn opposite(row: &Row, strength: Strength) -> Row
     }
 }
 
-ghost use Rattle.std.specs.Prelude.{int_div, ◌<ℤ◌, MatchOption};
+ghost use Rattle.std.specs.Prelude.{◌<ℤ◌, List, MatchOption};
 ghost use Rattle.crn_fraction.specs.Gcd.{gcd};
-ghost use Rattle.crn_fraction.specs.Rational.{ratio, 0ℚ, ◌-ℚ◌, ◌/ℚ◌};
+ghost use Rattle.crn_fraction.specs.Rational.{ℚ, ratio, ◌-ℚ◌, ◌/ℚ◌};
 ghost use Rattle.crn_linear.specs.Forms.{minus};
-ghost use Rattle.crn_linear.specs.Cleared.{pivot, size_ℚ, lcm, common_den, unit_of, numerator_over, numerators, cleared, IsSmallFrac};
+ghost use Rattle.crn_linear.specs.Cleared.{IsCleared, pivot, size_ℚ, lcm, common_den, unit_of, numerator_over, numerators, cleared, IsSmallFrac};
+
+/// The cleared row of a form is a positive multiple of it, and no number but 1 divides all of its entries unless they are all 0.
+pub fn clearing()
+    ensures { (form : List ℚ) → IsCleared form (cleared form) }
+{
+}
 
 /// The row of a form: its positive multiple whose entries are whole with greatest common divisor 1, or the zero row. It is
 /// refused where an entry passes 2^59 in size.
