@@ -1,12 +1,12 @@
 -- The least common multiple, and the least common denominator of a list.
-use Rattle.std.proofs.Common.{◌≡◌, ℕ, zero, suc, ◌+◌, ◌*◌, ◌/◌, ◌<◌, ◌≤◌, List, [], ◌∷◌, length, get_or, take, refl, sym, ap, ap₂, ◌∙◌, subst, arith}
+use Rattle.std.proofs.Common.{◌≡◌, ℕ, zero, suc, ◌*◌, ◌/◌, ◌<◌, ◌≤◌, List, [], ◌∷◌, length, take, refl, sym, ap, ◌∙◌, subst, arith}
 use Rattle.std.specs.List.{fold}
 use Rattle.std.specs.Int.{◌∣◌}
 use Rattle.std.proofs.lemmas.Nat.Gcd.{dvd_refl, dvd_trans, le_of_dvd}
 use Rattle.std.proofs.Math.Nat.{dvd-mul_right, dvd-mul_left, mul-dvd-mul_left, dvd_of_mul-dvd-mul_right, div-mul_cancel}
 use Rattle.crn_fraction.specs.Gcd.{gcd, gcd-pos, left-over_gcd, right-over_gcd, right-over_gcd_pos, IsCoprime-over_gcd}
-use Rattle.crn_fraction.specs.Rational.{ℚ, 0ℚ}
-use Rattle.crn_fraction.proofs.Lowest.{IsCoprime-swap, dvd_other}
+use Rattle.crn_fraction.specs.Rational.{ℚ}
+use Rattle.crn_fraction.proofs.Lowest.{dvd_other}
 use Rattle.crn_fraction.proofs.Ratios.{times_pos}
 use Rattle.crn_linear.specs.Forms.{entry_of}
 use Rattle.crn_linear.specs.Cleared.{lcm, common_den}

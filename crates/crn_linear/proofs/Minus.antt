@@ -1,9 +1,9 @@
 -- Differences of forms, and the first that is not 0.
-use Rattle.std.proofs.Common.{◌≡◌, ◌≢◌, ◌⊎◌, inl, inr, ⊎_elim, ℕ, zero, suc, ◌+◌, ◌-◌, ◌<◌, ◌≤◌, List, [], ◌∷◌, ◌++◌, length, get_or, take, drop, cond, true, false, refl, sym, ap, ap₂, ◌∙◌, subst, arith, add-one}
+use Rattle.std.proofs.Common.{◌≡◌, ◌≢◌, ⊎_elim, ℕ, zero, suc, ◌+◌, ◌<◌, ◌≤◌, List, [], ◌∷◌, length, get_or, take, drop, cond, refl, sym, ap, ap₂, subst, arith, add-one}
 use Rattle.std.specs.Prelude.{replicate, pos}
 use Rattle.std.specs.List.{All}
 use Rattle.std.proofs.lemmas.List.{length-replicate, take-replicate, drop-replicate}
-use Rattle.crn_fraction.specs.Rational.{ℚ, whole, 0ℚ, ◌-ℚ◌, is_zero_ℚ}
+use Rattle.crn_fraction.specs.Rational.{ℚ, whole, 0ℚ, ◌-ℚ◌}
 use Rattle.crn_fraction.proofs.Ring.{sub_ℚ-zero}
 use Rattle.crn_fraction.proofs.Products.{is_zero_ℚ_cases}
 use Rattle.crn_linear.specs.Forms.{entry_of, minus}

@@ -1,12 +1,12 @@
 -- The cleared row is a positive multiple of its form, and nothing but 1 divides all of its entries unless they are all 0.
-use Rattle.std.proofs.Common.{◌≡◌, ◌≢◌, ◌⊎◌, inl, inr, ⊎_elim, ℕ, zero, suc, ◌+◌, ◌*◌, ◌/◌, ◌<◌, ◌≤◌, List, [], ◌∷◌, length, get_or, map, refl, sym, ap, ap₂, ◌∙◌, subst, arith}
-use Rattle.std.specs.Prelude.{ℤ, pos, ◌*ℤ◌, ◌<ℤ◌, unsigned_abs}
+use Rattle.std.proofs.Common.{◌≡◌, ◌≢◌, inl, inr, ⊎_elim, ℕ, zero, suc, ◌*◌, ◌/◌, ◌<◌, ◌≤◌, List, [], ◌∷◌, length, map, refl, sym, ap, ap₂, ◌∙◌, subst, arith}
+use Rattle.std.specs.Prelude.{pos, ◌*ℤ◌, ◌<ℤ◌, unsigned_abs}
 use Rattle.std.specs.List.{All}
 use Rattle.std.specs.Int.{◌∣◌}
 use Rattle.std.proofs.lemmas.Int.{ints, unsigned_abs-mul}
-use Rattle.std.proofs.lemmas.Nat.Gcd.{le_of_dvd, dvd_refl}
-use Rattle.std.proofs.Math.Nat.{div-mul_cancel, mul-dvd-mul_left, dvd_of_mul-dvd-mul_right, pos_of_dvd_of_pos, mul_comm, div-one}
-use Rattle.crn_fraction.specs.Rational.{ℚ, ratio, whole, 0ℚ, ◌*ℚ◌, ◌/ℚ◌, ◌≤ℚ◌, ◌<ℚ◌, inverse_ℚ}
+use Rattle.std.proofs.lemmas.Nat.Gcd.{le_of_dvd}
+use Rattle.std.proofs.Math.Nat.{div-mul_cancel, mul-dvd-mul_left, dvd_of_mul-dvd-mul_right, pos_of_dvd_of_pos, div-one}
+use Rattle.crn_fraction.specs.Rational.{ℚ, whole, 0ℚ, ◌*ℚ◌, ◌/ℚ◌, ◌≤ℚ◌, ◌<ℚ◌, inverse_ℚ}
 use Rattle.crn_fraction.specs.Parts.{ratio_self, num-whole, den-whole}
 use Rattle.crn_fraction.proofs.Integers.{ring_ℤ, z-writes}
 use Rattle.crn_fraction.proofs.Core.{ratio_same}
@@ -29,8 +29,8 @@ numerator_is m u h =
     let s = m / u.den in
     let split : s * u.den ≡ m = div-mul_cancel u.den h in
     let cross : (u.num *ℤ pos s) *ℤ pos u.den ≡ (pos m *ℤ u.num) *ℤ pos 1 =
-        ring_ℤ (u.num ∷ pos s ∷ pos u.den ∷ []) {y = ((pos s *ℤ pos u.den) *ℤ u.num) *ℤ pos 1} (search z-writes depth 20) (search z-writes depth 20) refl
-        ∙ ap (λ n. (pos n *ℤ u.num) *ℤ pos 1) split in
+    ring_ℤ (u.num ∷ pos s ∷ pos u.den ∷ []) {y = ((pos s *ℤ pos u.den) *ℤ u.num) *ℤ pos 1} (search z-writes depth 20) (search z-writes depth 20) refl
+    ∙ ap (λ n. (pos n *ℤ u.num) *ℤ pos 1) split in
     ratio_same (u.num *ℤ pos s) (pos m *ℤ u.num) 1 u.den (omega arith) u.lowest.positive cross
     ∙ sym (over-whole-*ℚ (pos m) u.num u.den u.lowest.positive) ∙ ap (λ q. whole (pos m) *ℚ q) (ratio_self u)
 
@@ -51,9 +51,9 @@ pub over_positive : (b k : ℚ) → 0ℚ <ℚ b → 0ℚ <ℚ k → 0ℚ <ℚ b 
 over_positive b k h l =
     let some : k ≢ 0ℚ = λ e. <ℚ_irrefl 0ℚ (subst (λ q. 0ℚ <ℚ q) e l) in
     ⊎_elim (λ le.
-      let at_most : k *ℚ (b /ℚ k) ≤ℚ k *ℚ 0ℚ = *ℚ-≤ℚ k (b /ℚ k) 0ℚ (≤ℚ_of_<ℚ 0ℚ k l) le in
-      let below : b ≤ℚ 0ℚ = subst (λ q. q ≤ℚ 0ℚ) (*ℚ-/ℚ b k some) (subst (λ q. k *ℚ (b /ℚ k) ≤ℚ q) (*ℚ-zero k) at_most) in
-      absurd (not_<ℚ b 0ℚ below h))
+    let at_most : k *ℚ (b /ℚ k) ≤ℚ k *ℚ 0ℚ = *ℚ-≤ℚ k (b /ℚ k) 0ℚ (≤ℚ_of_<ℚ 0ℚ k l) le in
+    let below : b ≤ℚ 0ℚ = subst (λ q. q ≤ℚ 0ℚ) (*ℚ-/ℚ b k some) (subst (λ q. k *ℚ (b /ℚ k) ≤ℚ q) (*ℚ-zero k) at_most) in
+    absurd (not_<ℚ b 0ℚ below h))
     (λ lt. lt) (≤ℚ_or_<ℚ (b /ℚ k) 0ℚ)
 
 pub cleared_multiple : (form : List ℚ) → IsMultiple form (numerators (unit_of form))
@@ -127,10 +127,10 @@ all_zero : (form : List ℚ) → ((i : ℕ) → i < length form → entry_of for
 all_zero form none =
     let us = unit_of form in
     all_of (λ n. n ≡ pos 0) (numerators us) (pos 0) (λ i h.
-      let below : i < length us = rw (← length-numerators us) h in
-      let in_form : i < length form = rw (← length-unit_of form) below in
-      let zero_unit : entry_of us i ≡ 0ℚ = entry-unit_of form i in_form ∙ ap (λ x. x /ℚ pivot form) (none i in_form) ∙ /ℚ-is 0ℚ (pivot form) ∙ zero-*ℚ (inverse_ℚ (pivot form)) in
-      entry-numerators us i below ∙ ap (λ z. z *ℤ pos (common_den us / (entry_of us i).den)) (ap (λ q. q.num) zero_unit ∙ num-whole (pos 0)) ∙ nothing (common_den us / (entry_of us i).den))
+    let below : i < length us = rw (← length-numerators us) h in
+    let in_form : i < length form = rw (← length-unit_of form) below in
+    let zero_unit : entry_of us i ≡ 0ℚ = entry-unit_of form i in_form ∙ ap (λ x. x /ℚ pivot form) (none i in_form) ∙ /ℚ-is 0ℚ (pivot form) ∙ zero-*ℚ (inverse_ℚ (pivot form)) in
+    entry-numerators us i below ∙ ap (λ z. z *ℤ pos (common_den us / (entry_of us i).den)) (ap (λ q. q.num) zero_unit ∙ num-whole (pos 0)) ∙ nothing (common_den us / (entry_of us i).den))
   where
     nothing : (n : ℕ) → pos 0 *ℤ pos n ≡ pos 0
     nothing n = omega (arith, ints)
@@ -141,6 +141,6 @@ unfolding cleared
 cleared_is form = record {
   multiple = cleared_multiple form;
   lowest = ⊎_elim (λ none. inr (all_zero form none.0))
-    (λ (some : (i : ℕ) × (i < length form) × (entry_of form i ≢ 0ℚ) × (pivot form ≡ size_ℚ (entry_of form i))). inl (no_divisor form some.0 some.1 (unit_sign form some.0 some.1 some.2 some.3)))
-    (pivot_cases form);
+      (λ (some : (i : ℕ) × (i < length form) × (entry_of form i ≢ 0ℚ) × (pivot form ≡ size_ℚ (entry_of form i))). inl (no_divisor form some.0 some.1 (unit_sign form some.0 some.1 some.2 some.3)))
+      (pivot_cases form);
 }

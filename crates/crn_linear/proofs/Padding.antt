@@ -1,5 +1,5 @@
 -- Nine places that are filled one after another.
-use Rattle.std.proofs.Common.{◌≡◌, ℕ, zero, suc, ◌+◌, ◌-◌, ◌<◌, ◌≤◌, List, [], ◌∷◌, ◌++◌, length, get_or, take, drop, set, refl, sym, ap, ap₂, ◌∙◌, subst, arith, add-one, append_assoc}
+use Rattle.std.proofs.Common.{◌≡◌, ℕ, zero, suc, ◌+◌, ◌-◌, ◌<◌, ◌≤◌, List, [], ◌∷◌, ◌++◌, length, get_or, take, drop, set, sym, ap, ap₂, ◌∙◌, subst, arith, add-one, append_assoc}
 use Rattle.std.specs.Prelude.{replicate, ℤ, pos}
 use Rattle.std.proofs.lemmas.List.{length-take-le, set-append_right, length-append, length-replicate, take_all}
 use Rattle.std.proofs.Math.Seq.{take-suc, take-append_seam, drop-append_seam}
@@ -17,7 +17,7 @@ module _ {X : Type 0} (z : X) where
   padding_step xs places i x h k e f =
       let long : length (take i xs) ≡ i = length-take-le i xs (omega arith) in
       let at_rest : set (take i xs ++ replicate (9 - i) z) i x ≡ take i xs ++ set (replicate (9 - i) z) (i - i) x =
-          set-append_right (take i xs) (replicate (9 - i) z) i i x long (omega arith) in
+      set-append_right (take i xs) (replicate (9 - i) z) i i x long (omega arith) in
       let none : i - i ≡ 0 = omega arith in
       let filled : set (replicate (9 - i) z) 0 x ≡ x ∷ replicate ((9 - i) - 1) z = first_of_rest (9 - i) x (omega arith) in
       let fewer : (9 - i) - 1 ≡ 9 - (i + 1) = omega arith in

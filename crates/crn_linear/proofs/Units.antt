@@ -1,7 +1,6 @@
 -- A form over its first entry that is not 0, and the sizes of what its cleared row is made of.
-use Rattle.std.proofs.Common.{◌≡◌, ◌≢◌, ◌⊎◌, inl, inr, ⊎_elim, ℕ, zero, suc, ◌+◌, ◌*◌, ◌/◌, ◌<◌, ◌≤◌, ◌^◌, List, [], ◌∷◌, length, get_or, map, cond, Bool, true, false, refl, sym, ap, ap₂, ◌∙◌, subst, arith}
-use Rattle.std.specs.Prelude.{ℤ, pos, negsuc, neg_ℤ, ◌*ℤ◌, ◌<ℤ◌, unsigned_abs}
-use Rattle.std.specs.List.{All}
+use Rattle.std.proofs.Common.{◌≡◌, ◌≢◌, ◌⊎◌, inl, inr, ⊎_elim, ℕ, zero, suc, ◌*◌, ◌/◌, ◌<◌, ◌≤◌, ◌^◌, List, [], ◌∷◌, length, get_or, cond, true, false, refl, sym, ap, ◌∙◌, subst, arith}
+use Rattle.std.specs.Prelude.{ℤ, pos, negsuc, neg_ℤ, ◌<ℤ◌, unsigned_abs}
 use Rattle.std.specs.Int.{◌∣◌}
 use Rattle.std.proofs.lemmas.Int.{ints, unsigned_abs-mul}
 use Rattle.std.proofs.lemmas.List.{length-map}
@@ -9,13 +8,13 @@ use Rattle.std.proofs.lemmas.Nat.Gcd.{le_of_dvd, dvd_refl}
 use Rattle.std.proofs.Math.Nat.{div-mul_cancel, div-one}
 use Rattle.std.proofs.lemmas.List as lists
 use Rattle.crn_fraction.specs.Rational.{ℚ, IsLowest, ratio, whole, 0ℚ, ◌*ℚ◌, ◌/ℚ◌, neg_ℚ, inverse_ℚ, is_zero_ℚ}
-use Rattle.crn_fraction.specs.Parts.{same_parts, ratio_lowest, ratio_self, num-whole, den-whole}
+use Rattle.crn_fraction.specs.Parts.{same_parts, ratio_lowest, num-whole, den-whole}
 use Rattle.crn_fraction.proofs.Core.{zero_by_num}
 use Rattle.crn_fraction.proofs.Ring.{ring_ℚ, q-writes, zero-*ℚ}
 use Rattle.crn_fraction.proofs.Products.{*ℚ-inverse, /ℚ-is, is_zero_ℚ_cases}
 use Rattle.crn_linear.specs.Forms.{entry_of}
-use Rattle.crn_linear.specs.Rows.{IsSmall, AreSmall}
-use Rattle.crn_linear.specs.Cleared.{size_ℚ, pivot, lcm, common_den, unit_of, numerator_over, numerators, cleared, IsSmallFrac}
+use Rattle.crn_linear.specs.Rows.{AreSmall}
+use Rattle.crn_linear.specs.Cleared.{size_ℚ, pivot, common_den, unit_of, numerator_over, numerators, IsSmallFrac}
 use Rattle.crn_linear.proofs.Denominators.{den-dvd-common_den, common_den-positive, common_den-least}
 
 -- ---- a number without its sign
@@ -52,9 +51,9 @@ pivot_cases (x ∷ form) = by_test (is_zero_ℚ_cases x) (pivot_cases form)
 
     by_test : ((x ≡ 0ℚ) × (is_zero_ℚ x ≡ true)) ⊎ ((x ≢ 0ℚ) × (is_zero_ℚ x ≡ false))
         → (((i : ℕ) → i < length form → entry_of form i ≡ 0ℚ) × (pivot form ≡ whole (pos 1)))
-          ⊎ ((i : ℕ) × (i < length form) × (entry_of form i ≢ 0ℚ) × (pivot form ≡ size_ℚ (entry_of form i)))
+        ⊎ ((i : ℕ) × (i < length form) × (entry_of form i ≢ 0ℚ) × (pivot form ≡ size_ℚ (entry_of form i)))
         → (((i : ℕ) → i < length (x ∷ form) → entry_of (x ∷ form) i ≡ 0ℚ) × (pivot (x ∷ form) ≡ whole (pos 1)))
-          ⊎ ((i : ℕ) × (i < length (x ∷ form)) × (entry_of (x ∷ form) i ≢ 0ℚ) × (pivot (x ∷ form) ≡ size_ℚ (entry_of (x ∷ form) i)))
+        ⊎ ((i : ℕ) × (i < length (x ∷ form)) × (entry_of (x ∷ form) i ≢ 0ℚ) × (pivot (x ∷ form) ≡ size_ℚ (entry_of (x ∷ form) i)))
     by_test (inl z) (inl none) = inl (at_head z.0 none.0, ap (λ t. cond t (pivot form) (size_ℚ x)) z.1 ∙ none.1)
     by_test (inl z) (inr (i, h, f, e)) = inr (suc i, omega arith, f, ap (λ t. cond t (pivot form) (size_ℚ x)) z.1 ∙ e)
     by_test (inr n) r = inr (0, omega arith, n.0, ap (λ t. cond t (pivot form) (size_ℚ x)) n.1)
@@ -141,7 +140,7 @@ entry_small form i s h =
     let below : i < length us = rw (length-unit_of form) h in
     let u = entry_of us i in
     let e : unsigned_abs (get_or (numerators us) i (pos 0)) ≡ unsigned_abs u.num * (common_den us / u.den) =
-        ap unsigned_abs (entry-numerators us i below) ∙ unsigned_abs-mul u.num (pos (common_den us / u.den)) in
+    ap unsigned_abs (entry-numerators us i below) ∙ unsigned_abs-mul u.num (pos (common_den us / u.den)) in
     let small : unsigned_abs (get_or (numerators us) i (pos 0)) ≤ 2 ^ 59 = (s i (pos 0) (rw (length-numerators us) below)).size in
     subst (λ n. n ≤ 2 ^ 59) e small
 
@@ -150,18 +149,18 @@ pub common_den-small : (form : List ℚ) → AreSmall (numerators (unit_of form)
 common_den-small form s =
     ⊎_elim
     (λ none.
-      let ones : (i : ℕ) → i < length (unit_of form) → (entry_of (unit_of form) i).den ∣ 1 = λ i h.
-          let below : i < length form = subst (λ n. i < n) (length-unit_of form) h in
-          let zero_unit : entry_of (unit_of form) i ≡ 0ℚ = entry-unit_of form i below ∙ ap (λ x. x /ℚ pivot form) (none.0 i below) ∙ /ℚ-is 0ℚ (pivot form) ∙ zero-*ℚ (inverse_ℚ (pivot form)) in
-          subst (λ d. d ∣ 1) (sym (ap (λ q. q.den) zero_unit ∙ den-whole (pos 0))) (dvd_refl 1) in
-      let one = le_of_dvd (omega arith) (common_den-least (unit_of form) 1 ones) in
-      omega arith)
+    let ones : (i : ℕ) → i < length (unit_of form) → (entry_of (unit_of form) i).den ∣ 1 = λ i h.
+    let below : i < length form = subst (λ n. i < n) (length-unit_of form) h in
+    let zero_unit : entry_of (unit_of form) i ≡ 0ℚ = entry-unit_of form i below ∙ ap (λ x. x /ℚ pivot form) (none.0 i below) ∙ /ℚ-is 0ℚ (pivot form) ∙ zero-*ℚ (inverse_ℚ (pivot form)) in
+    subst (λ d. d ∣ 1) (sym (ap (λ q. q.den) zero_unit ∙ den-whole (pos 0))) (dvd_refl 1) in
+    let one = le_of_dvd (omega arith) (common_den-least (unit_of form) 1 ones) in
+    omega arith)
     (λ (some : (i : ℕ) × (i < length form) × (entry_of form i ≢ 0ℚ) × (pivot form ≡ size_ℚ (entry_of form i))).
-      let i = some.0 in
-      let u = entry_of (unit_of form) i in
-      let sign : IsSign u = unit_sign form i some.1 some.2 some.3 in
-      let small = entry_small form i s some.1 in
-      by_one (unsigned_abs u.num) u.den (common_den (unit_of form)) sign.size sign.den small)
+    let i = some.0 in
+    let u = entry_of (unit_of form) i in
+    let sign : IsSign u = unit_sign form i some.1 some.2 some.3 in
+    let small = entry_small form i s some.1 in
+    by_one (unsigned_abs u.num) u.den (common_den (unit_of form)) sign.size sign.den small)
     (pivot_cases form)
   where
     by_one : (n d m : ℕ) → n ≡ 1 → d ≡ 1 → n * (m / d) ≤ 2 ^ 59 → m ≤ 2 ^ 59

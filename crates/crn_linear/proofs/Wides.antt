@@ -1,10 +1,10 @@
 -- Differences and quotients of fractions, in parts of 127 bits.
-use Rattle.std.proofs.Common.{◌≡◌, ◌≢◌, ℕ, zero, suc, ◌+◌, ◌*◌, ◌<◌, ◌≤◌, ◌^◌, List, [], ◌∷◌, Result, Ok, Err, refl, sym, ap, ap₂, ◌∙◌, subst, arith, to_z, of_z}
+use Rattle.std.proofs.Common.{◌≡◌, ℕ, ◌*◌, ◌<◌, ◌≤◌, ◌^◌, [], ◌∷◌, Result, Ok, Err, refl, sym, ap, ap₂, ◌∙◌, subst, arith, to_z, of_z}
 use Rattle.std.specs.Prelude.{ℤ, pos, neg_ℤ, ◌+ℤ◌, ◌-ℤ◌, ◌*ℤ◌, ◌<ℤ◌, unsigned_abs}
 use Rattle.std.specs.Int.{w128}
 use Rattle.std.specs.Result.{OkIff}
 use Rattle.std.proofs.lemmas.Int.{ints}
-use Rattle.crn_fraction.specs.Rational.{ℚ, IsLowest, ratio, whole, ◌+ℚ◌, ◌-ℚ◌, ◌*ℚ◌, ◌/ℚ◌, neg_ℚ, inverse_ℚ}
+use Rattle.crn_fraction.specs.Rational.{ℚ, IsLowest, ratio, whole, ◌+ℚ◌, ◌-ℚ◌, ◌/ℚ◌, neg_ℚ, inverse_ℚ}
 use Rattle.crn_fraction.specs.Parts.{ratio_self, ratio_lowest}
 use Rattle.crn_fraction.specs.Frac.{IsFrac}
 use Rattle.crn_fraction.proofs.Integers.{ring_ℤ, z-writes}
@@ -35,7 +35,7 @@ neg_parts b = refl
 pub minus_parts : (a b : ℚ) (n : ℤ) (d : ℕ) → n ≡ a.num *ℤ pos b.den -ℤ b.num *ℤ pos a.den → d ≡ a.den * b.den → ratio n d ≡ a -ℚ b
 minus_parts a b n d e f =
     let written : a.num *ℤ pos b.den -ℤ b.num *ℤ pos a.den ≡ a.num *ℤ pos b.den +ℤ neg_ℤ b.num *ℤ pos a.den =
-        ring_ℤ (a.num ∷ b.num ∷ pos a.den ∷ pos b.den ∷ []) {x = a.num *ℤ pos b.den +ℤ neg_ℤ (b.num *ℤ pos a.den)} (search z-writes depth 20) (search z-writes depth 20) refl in
+    ring_ℤ (a.num ∷ b.num ∷ pos a.den ∷ pos b.den ∷ []) {x = a.num *ℤ pos b.den +ℤ neg_ℤ (b.num *ℤ pos a.den)} (search z-writes depth 20) (search z-writes depth 20) refl in
     ap₂ ratio (e ∙ written) f
     ∙ sym (ratio-+ℚ a.num a.den (neg_ℤ b.num) b.den a.lowest.positive b.lowest.positive)
     ∙ ap (λ x. x +ℚ ratio (neg_ℤ b.num) b.den) (ratio_self a) ∙ difference_of a b (ratio (neg_ℤ b.num) b.den) (sym (neg_parts b))
@@ -63,8 +63,8 @@ pub over_parts : (x p : ℚ) (n m : ℤ) (d e : ℕ) → pos 0 <ℤ p.num
 over_parts x p n m d e h hn hd hm he =
     let parts = inverse_parts p h in
     let both = product_across x (inverse_ℚ p) n m d e (n *ℤ m) (d * e)
-        (hn ∙ ap (λ k. (ratio x.num k).num) (sym parts.1)) (hd ∙ ap (λ k. (ratio x.num k).den) (sym parts.1))
-        (hm ∙ ap (λ k. (ratio k x.den).num) (sym parts.0)) (he ∙ ap (λ k. (ratio k x.den).den) (sym parts.0)) refl refl in
+    (hn ∙ ap (λ k. (ratio x.num k).num) (sym parts.1)) (hd ∙ ap (λ k. (ratio x.num k).den) (sym parts.1))
+    (hm ∙ ap (λ k. (ratio k x.den).num) (sym parts.0)) (he ∙ ap (λ k. (ratio k x.den).den) (sym parts.0)) refl refl in
     (both.0, both.1 ∙ sym (/ℚ-is x p))
 
 -- a ratio in lowest terms is small where its parts are

@@ -2,30 +2,35 @@
 //! rows are exact.
 #![tactic(auto)]
 
-ghost use Rattle.std.specs.Prelude.{◌≡◌, ℕ, ◌+◌, ◌*◌, ◌<◌, ◌≤◌, ◌^◌, ℤ, pos, ◌+ℤ◌, ◌*ℤ◌, unsigned_abs, length, slice_index_or};
+ghost use Rattle.std.specs.Prelude.{◌≡◌, ℕ, ◌+◌, ◌*◌, ◌<◌, ◌≤◌, ◌^◌, ℤ, pos, ◌+ℤ◌, ◌*ℤ◌, ◌<ℤ◌, unsigned_abs, List, length, slice_index_or, MatchOption};
 ghost use Rattle.std.specs.List.{All};
 ghost use Rattle.std.specs.Result.{OkIff};
 ghost use Rattle.std.specs.Ordering.{int_cmp};
-ghost use Rattle.crn_linear.specs.Forms.{at, entry_of, IsValueInReach};
+ghost use Rattle.crn_fraction.specs.Gcd.{gcd};
+ghost use Rattle.crn_fraction.specs.Rational.{ℚ, ratio, ◌-ℚ◌, ◌/ℚ◌};
+ghost use Rattle.crn_linear.specs.Forms.{at, entry_of, minus, IsValueInReach};
 ghost use Rattle.crn_linear.specs.Rows.{dot, IsSmall, AreSmall, opposite_of};
-ghost use Rattle.crn_linear.specs.Views.{HasColumns};
+ghost use Rattle.crn_linear.specs.Cleared.{IsCleared, pivot, size_ℚ, common_den, unit_of, numerators, cleared, IsSmallFrac};
+ghost use Rattle.crn_linear.specs.Views.{HasColumns, padded};
 ghost use Rattle.crn_linear.specs.Strengths.{is_strict, row_with};
 
 use crn_fraction::{Frac, TooBig};
 use std::cmp::Ordering;
 use std::marker::Model;
 
-/// The greatest size of an entry of a row or a point.
+// The greatest size of an entry of a row or a point.
 const LIMIT: u128 = 1 << 59;
 
 /// What a row asks of a point: that the sum of the products of their numbers is at least 0, or that it is above 0.
 #[derive(Clone, Copy, Debug, PartialEq, Eq, Hash)]
 pub enum Strength {
+    /// At least 0.
     Weak,
+    /// Above 0.
     Strict,
 }
 
-/// A linear form: a fraction for each column.
+/// A linear form: a fraction for each of its 1 to 9 columns. An affine form has its constant in the last.
 #[derive(Clone, Copy, Debug, PartialEq, Eq, Hash)]
 pub struct Form {
     coeffs: [Frac; 9],
@@ -50,7 +55,7 @@ impl Model for Form {
     ghost inverse_ok = { λ f kept. λ i. record { coeffs = (padded_back 0ℚ f.len f.coeffs kept).0 i; len = (padded_back 0ℚ f.len f.coeffs kept).1 i } };
 }
 
-/// A whole number of size at most 2^59 for each column.
+/// A point: a whole number of size at most 2^59 for each of its 1 to 9 columns.
 #[derive(Clone, Copy, Debug, PartialEq, Eq, Hash)]
 pub struct Point {
     entries: [i64; 9],
@@ -72,7 +77,7 @@ impl Model for Point {
     ghost inverse_ok = { λ p kept. λ i. record { entries = (small_padded_back p.len p.entries kept).0 i; len = (small_padded_back p.len p.entries kept).1 i } };
 }
 
-/// A row of a system: a whole number of size at most 2^59 for each column, and what it asks.
+/// A row of a system: a whole number of size at most 2^59 for each of its 1 to 9 columns, and what it asks of a point.
 #[derive(Clone, Copy, Debug, PartialEq, Eq, Hash)]
 pub struct Row {
     entries: [i64; 9],
@@ -98,6 +103,7 @@ impl Model for Row {
 }
 
 impl Form {
+    /// The form of these coefficients.
     pub fn of(coeffs: &[Frac]) -> Form
         requires { HasColumns coeffs.now }
         ensures { result ≡ coeffs.now }
@@ -120,6 +126,7 @@ impl Form {
         self.len
     }
 
+    /// The coefficient of a column.
     pub fn coeff(&self, index: usize) -> Frac
         requires { index < length self.now }
         ensures { result ≡ entry_of self.now index }
@@ -128,7 +135,8 @@ impl Form {
         coeffs[index]
     }
 
-    /// The sum of the products in ascending order of the columns.
+    /// The value at a point: the sum of the products in ascending order of the columns. It is refused where one of them, or
+    /// a sum of the first few, does not fit.
     pub fn at(&self, x: &[Frac]) -> Result<Frac, TooBig>
         requires { length self.now ≡ length x.now }
         ensures { OkIff result (IsValueInReach self.now x.now) (at self.now x.now) }
@@ -143,6 +151,7 @@ impl Form {
 }
 
 impl Point {
+    /// The point of these numbers.
     pub fn of(entries: &[i64]) -> Point
         requires columns { HasColumns entries.now }
         requires small { AreSmall entries.now }
@@ -163,6 +172,7 @@ impl Point {
         self.len
     }
 
+    /// The number of a column.
     pub fn entry(&self, index: usize) -> i64
         requires { index < length self.now }
         ensures value { result ≡ slice_index_or self.now index (pos 0) }
@@ -174,6 +184,7 @@ impl Point {
 }
 
 impl Row {
+    /// The row of these entries.
     pub fn of(entries: &[i64], strength: Strength) -> Row
         requires columns { HasColumns entries.now }
         requires small { AreSmall entries.now }
@@ -195,6 +206,7 @@ impl Row {
         self.len
     }
 
+    /// The number of a column.
     pub fn entry(&self, index: usize) -> i64
         requires { index < length self.now.entries }
         ensures value { result ≡ slice_index_or self.now.entries index (pos 0) }
@@ -204,6 +216,7 @@ impl Row {
         entries[index]
     }
 
+    /// What the row asks of a point.
     pub fn strength(&self) -> Strength
         ensures { is_strict result ≡ self.now.strict }
     {
@@ -216,7 +229,7 @@ impl Row {
         ensures { result ≡ int_cmp (dot self.now.entries p.now) (pos 0) }
     {
         let mut sum = 0i128;
-        for i in 0..self.len() {
+        for i in 0..p.len() {
             sum += product(self.entry(i), p.entry(i));
         }
         sum.cmp(&0)
@@ -238,17 +251,10 @@ pub fn opposite(row: &Row, strength: Strength) -> Row
     }
 }
 
-ghost use Rattle.std.specs.Prelude.{◌<ℤ◌, List, MatchOption};
-ghost use Rattle.crn_fraction.specs.Gcd.{gcd};
-ghost use Rattle.crn_fraction.specs.Rational.{ℚ, ratio, ◌-ℚ◌, ◌/ℚ◌};
-ghost use Rattle.crn_linear.specs.Forms.{minus};
-ghost use Rattle.crn_linear.specs.Cleared.{IsCleared, pivot, size_ℚ, lcm, common_den, unit_of, numerator_over, numerators, cleared, IsSmallFrac};
-
 /// The cleared row of a form is a positive multiple of it, and no number but 1 divides all of its entries unless they are all 0.
 pub fn clearing()
     ensures { (form : List ℚ) → IsCleared form (cleared form) }
-{
-}
+{}
 
 /// The row of a form: its positive multiple whose entries are whole with greatest common divisor 1, or the zero row. It is
 /// refused where an entry passes 2^59 in size.
@@ -272,7 +278,7 @@ pub fn difference_row(a: &Form, b: &Form, strength: Strength) -> Result<Row, Too
     numerators(&units, common, strength)
 }
 
-// The exact difference of two fractions, in parts of 127 bits.
+// A fraction in lowest terms with parts of up to 127 bits, as the difference of two fractions has.
 #[derive(Clone, Copy)]
 struct Wide {
     num: i128,
@@ -313,6 +319,7 @@ impl Wide {
         self.den
     }
 
+    // The quotient of two whole numbers.
     fn of(num: i128, den: u128) -> Wide
         requires positive { 0 < den }
         requires num_small { unsigned_abs num < 2 ^ 127 }
@@ -323,6 +330,7 @@ impl Wide {
         Wide { num, den }
     }
 
+    // The exact difference.
     fn difference(a: Frac, b: Frac) -> Wide
         ensures { result ≡ a -ℚ b }
     {
@@ -336,7 +344,7 @@ impl Wide {
         Wide::of(self.num().abs(), self.den())
     }
 
-    // The quotient by a number above 0, where both of its parts are at most 2^59.
+    // The quotient by a number above 0, where its lowest terms are at most 2^59.
     fn over(self, pivot: Wide) -> Result<Frac, TooBig>
         requires { pos 0 <ℤ pivot.num }
         ensures { OkIff result (IsSmallFrac (self /ℚ pivot)) (self /ℚ pivot) }
@@ -361,6 +369,7 @@ fn cross(a: Frac, b: Frac) -> i128
     long_product(a.num(), b.den())
 }
 
+// The product of the denominators.
 fn shared_den(a: Frac, b: Frac) -> u128
     ensures value { result ≡ a.den * b.den }
     ensures positive { 0 < result }
@@ -516,8 +525,6 @@ fn product(a: i64, b: i64) -> i128
     a as i128 * b as i128
 }
 
-ghost use Rattle.crn_linear.specs.Views.{padded};
-
 // The entries with 0 past the last.
 fn nine(entries: &[i64]) -> [i64; 9]
     requires { HasColumns entries.now }
@@ -529,3 +536,6 @@ fn nine(entries: &[i64]) -> [i64; 9]
     }
     places
 }
+
+#[cfg(test)]
+mod tests;

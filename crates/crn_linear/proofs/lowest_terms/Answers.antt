@@ -1,15 +1,12 @@
-use Rattle.std.proofs.Common.{arith, ap, ap₂, sym, refl, subst, ◌≡◌, ◌∙◌, ◌*◌, ◌/◌, ◌+◌, ◌<◌, ◌≤◌, ◌^◌, to_z, of_z, get_or, length, take, drop, SFits, ⊎_elim}
-use Rattle.std.specs.Int.{w64, w128}
-use Rattle.std.specs.Prelude.{ℤ, pos, ◌*ℤ◌, ◌-ℤ◌, unsigned_abs, int_div}
+use Rattle.std.proofs.Common.{arith, ap, ap₂, sym, ◌≡◌, ◌∙◌, ◌/◌, ◌<◌, ◌≤◌, to_z, of_z, SFits}
+use Rattle.std.specs.Int.{w128}
+use Rattle.std.specs.Prelude.{pos, unsigned_abs, int_div}
 use Rattle.std.proofs.lemmas.Int.{ints, to_z-of_z, quot_fits}
-use Rattle.std.proofs.lemmas.Result.{err_from_is_err_and}
 use Rattle.crn_fraction.specs.Gcd.{gcd}
-use Rattle.crn_fraction.specs.Rational.{ℚ, ratio, whole, 0ℚ, IsLowest, ◌-ℚ◌, ◌/ℚ◌}
-use Rattle.crn_fraction.proofs.Euclid.{gcd_step, gcd_end, gcd_positive, gcd_small}
+use Rattle.crn_fraction.specs.Rational.{ratio}
+use Rattle.crn_fraction.proofs.Euclid.{gcd_positive, gcd_small}
 use Rattle.crn_fraction.proofs.Core.{num-ratio, den-ratio}
-use Rattle.crn_fraction.proofs.Lowest.{reduced_parts, lowest_by_one, num-shrinks, den-shrinks}
-use Rattle.crn_linear.specs.Cleared.{IsWide, IsSmallFrac, pivot, common_den, numerators, unit_of, cleared}
-use Rattle.crn_linear.proofs.Wides.{wide_num, wide_den, wide_of, minus_parts, over_parts, small_parts, parts_small, same_answer, whole_quotient}
+use Rattle.crn_fraction.proofs.Lowest.{lowest_by_one, num-shrinks, den-shrinks}
 use Rattle.crn_linear.proofs.lowest_terms.Goals as goal
 use Rattle.crn_linear.proofs.lowest_terms.Goals.{After-gcd-common}
 
@@ -54,13 +51,14 @@ pub returns : goal.returns
 returns c =
     let shared = (goal.at.returns c).After-gcd-common in
     let num : to_z w128 (of_z w128 (int_div (to_z w128 (of_z w128 c.args.num)) (to_z w128 c.gcd-common.result))) ≡ (ratio c.args.num c.args.den).num =
-        ap (λ z. to_z w128 (of_z w128 z)) (ap₂ int_div (to_z-of_z w128 c.args.num c.ranges.num) (divisor shared))
-        ∙ to_z-of_z w128 (int_div c.args.num (pos c.gcd-common.result)) (quotient_fits shared)
-        ∙ ap (λ g. int_div c.args.num (pos g)) (is_gcd shared) ∙ sym (num-ratio c.args.num c.args.den c.requires.positive) in
+    ap (λ z. to_z w128 (of_z w128 z)) (ap₂ int_div (to_z-of_z w128 c.args.num c.ranges.num) (divisor shared))
+    ∙ to_z-of_z w128 (int_div c.args.num (pos c.gcd-common.result)) (quotient_fits shared)
+    ∙ ap (λ g. int_div c.args.num (pos g)) (is_gcd shared) ∙ sym (num-ratio c.args.num c.args.den c.requires.positive) in
     let den : c.args.den / c.gcd-common.result ≡ (ratio c.args.num c.args.den).den =
-        ap (λ g. c.args.den / g) (is_gcd shared) ∙ sym (den-ratio c.args.num c.args.den c.requires.positive) in
+    ap (λ g. c.args.den / g) (is_gcd shared) ∙ sym (den-ratio c.args.num c.args.den c.requires.positive) in
     record {
-      num = num; den = den;
+      num = num;
+      den = den;
       small_num = rw num (num-shrinks c.args.num c.args.den c.requires.positive);
       small_den = rw den (den-shrinks c.args.num c.args.den c.requires.positive);
     }

@@ -1,27 +1,16 @@
-use Rattle.std.proofs.Common.{arith, ap, ap₂, sym, refl, subst, below_more, ℕ, ◌≡◌, ◌≢◌, ◌∙◌, ◌*◌, ◌/◌, ◌+◌, ◌<◌, ◌≤◌, ◌^◌, to_z, of_z, get_or, length, take, drop, SFits, ⊎_elim, add-one}
+use Rattle.std.proofs.Common.{arith, ap, ap₂, sym, subst, below_more, ℕ, ◌≡◌, ◌∙◌, ◌/◌, ◌<◌, ◌≤◌, ◌^◌, to_z, of_z, get_or, length, take}
 use Rattle.std.specs.Int.{w64, w128}
-use Rattle.std.specs.Prelude.{ℤ, pos, ◌*ℤ◌, ◌-ℤ◌, ◌<ℤ◌, unsigned_abs, int_div}
-use Rattle.std.specs.Result.{OkIff}
-use Rattle.std.proofs.lemmas.Int.{ints, to_z-of_z, quot_fits}
-use Rattle.std.proofs.lemmas.Result.{err_from_is_err_and}
-use Rattle.crn_fraction.specs.Gcd.{gcd}
-use Rattle.crn_fraction.specs.Rational.{ℚ, ratio, whole, 0ℚ, IsLowest, ◌-ℚ◌, ◌/ℚ◌}
-use Rattle.crn_fraction.specs.Parts.{num-whole}
-use Rattle.crn_fraction.specs.Frac.{IsFrac}
-use Rattle.crn_fraction.proofs.Core.{zero_by_num}
+use Rattle.std.specs.Prelude.{ℤ, pos, ◌*ℤ◌, unsigned_abs}
+use Rattle.std.proofs.lemmas.Int.{ints}
 use Rattle.crn_fraction.proofs.Values.{part_below}
-use Rattle.crn_fraction.proofs.Lowest.{reduced_parts}
-use Rattle.crn_fraction.proofs.Euclid.{gcd_step, gcd_end, gcd_positive, gcd_small}
-use Rattle.crn_linear.specs.Forms.{entry_of, minus}
-use Rattle.crn_linear.specs.Rows.{IsSmall, AreSmall}
-use Rattle.crn_linear.specs.Views.{HasColumns, IsPadded, IsSmallPadded}
-use Rattle.crn_linear.specs.Strengths.{row_with, is_strict}
-use Rattle.crn_linear.specs.Cleared.{IsWide, IsSmallFrac, size_ℚ, pivot, lcm, common_den, numerators, numerator_over, unit_of, cleared}
-use Rattle.crn_linear.proofs.Padding.{padding_step, padding_end, seen, IsPadded-padded, IsSmallPadded-padded}
-use Rattle.crn_linear.proofs.Denominators.{common_den-more, common_den-take, common_den-positive}
-use Rattle.crn_linear.proofs.Minus.{length-minus, entry-minus, minus-zeros, IsPadded-zeros, seen-zeros, pivot-here, pivot-next, pivot-none, all_of, HasColumns-same}
-use Rattle.crn_linear.proofs.Units.{pivot_positive, length-unit_of, entry-unit_of, length-numerators, entry-numerators, common_den-small, units_small}
-use Rattle.crn_linear.proofs.Wides.{wide_num, wide_den, wide_of, minus_parts, over_parts, small_parts, parts_small, same_answer, whole_quotient, lt_irrefl_at}
+use Rattle.crn_linear.specs.Rows.{IsSmall}
+use Rattle.crn_linear.specs.Views.{IsSmallPadded}
+use Rattle.crn_linear.specs.Strengths.{row_with}
+use Rattle.crn_linear.specs.Cleared.{numerators}
+use Rattle.crn_linear.proofs.Padding.{padding_step, padding_end, seen, IsSmallPadded-padded}
+use Rattle.crn_linear.proofs.Minus.{all_of, HasColumns-same}
+use Rattle.crn_linear.proofs.Units.{length-numerators, entry-numerators}
+use Rattle.crn_linear.proofs.Wides.{lt_irrefl_at}
 use Rattle.crn_linear.proofs.numerators.Goals as goal
 use Rattle.crn_linear.proofs.numerators.Goals.{After-small_product}
 
@@ -43,7 +32,7 @@ entry_is c =
     let less = part_below c.args.common k 1 (omega arith) (omega arith) in
     let rest : to_z w128 (c.args.common / k) ≡ pos (c.args.common / k) = same (c.args.common / k) (omega arith) in
     ap₂ (λ x y. x *ℤ y) (num ∙ ap (λ q. q.num) c.coeff-unit.ensures)
-      (rest ∙ ap pos (ap₂ (λ m d. m / d) c.requires.denominator (den ∙ ap (λ q. q.den) c.coeff-unit.ensures)))
+    (rest ∙ ap pos (ap₂ (λ m d. m / d) c.requires.denominator (den ∙ ap (λ q. q.den) c.coeff-unit.ensures)))
     ∙ sym (entry-numerators c.args.units.now c.loop-i.i (below c))
   where
     same : (n : ℕ) → n ≤ 2 ^ 59 → to_z w128 n ≡ pos n
@@ -64,7 +53,7 @@ loop-i-preserved c =
     let size = subst (λ z. unsigned_abs z ≤ 2 ^ 59) (entry_is shared) c.in-Some.ensures.1 in
     record {
       filled = padding_step (pos 0) (numerators c.args.units.now) _ _ _ (row_below shared) (omega (arith, long))
-        (same_num _ _ (c.in-Some.ensures.0 ∙ entry_is shared) size) c.loop-i.invariant.filled;
+          (same_num _ _ (c.in-Some.ensures.0 ∙ entry_is shared) size) c.loop-i.invariant.filled;
       small = below_more _ _ c.loop-i.invariant.small (record { size = size });
     }
   where

@@ -1,27 +1,14 @@
-use Rattle.std.proofs.Common.{arith, ap, ap₂, sym, refl, subst, below_more, ◌≡◌, ◌≢◌, ◌∙◌, ◌*◌, ◌/◌, ◌+◌, ◌<◌, ◌≤◌, ◌^◌, to_z, of_z, get_or, length, take, drop, SFits, ⊎_elim, add-one}
-use Rattle.std.specs.Int.{w64, w128}
-use Rattle.std.specs.Prelude.{ℤ, pos, ◌*ℤ◌, ◌-ℤ◌, ◌<ℤ◌, unsigned_abs, int_div}
-use Rattle.std.specs.Result.{OkIff}
-use Rattle.std.proofs.lemmas.Int.{ints, to_z-of_z, quot_fits}
-use Rattle.std.proofs.lemmas.Result.{err_from_is_err_and}
-use Rattle.crn_fraction.specs.Gcd.{gcd}
-use Rattle.crn_fraction.specs.Rational.{ℚ, ratio, whole, 0ℚ, IsLowest, ◌-ℚ◌, ◌/ℚ◌}
+use Rattle.std.proofs.Common.{arith, ap, ap₂, sym, subst, ◌≡◌, ◌≢◌, ◌∙◌, ◌<◌, ◌^◌, of_z, length}
+use Rattle.std.specs.Int.{w128}
+use Rattle.std.specs.Prelude.{ℤ, pos, ◌<ℤ◌, unsigned_abs}
+use Rattle.std.proofs.lemmas.Int.{ints}
+use Rattle.crn_fraction.specs.Rational.{0ℚ, ◌-ℚ◌}
 use Rattle.crn_fraction.specs.Parts.{num-whole}
-use Rattle.crn_fraction.specs.Frac.{IsFrac}
 use Rattle.crn_fraction.proofs.Core.{zero_by_num}
-use Rattle.crn_fraction.proofs.Values.{part_below}
-use Rattle.crn_fraction.proofs.Lowest.{reduced_parts}
-use Rattle.crn_fraction.proofs.Euclid.{gcd_step, gcd_end, gcd_positive, gcd_small}
 use Rattle.crn_linear.specs.Forms.{entry_of, minus}
-use Rattle.crn_linear.specs.Rows.{IsSmall, AreSmall}
-use Rattle.crn_linear.specs.Views.{HasColumns, IsPadded, IsSmallPadded}
-use Rattle.crn_linear.specs.Strengths.{row_with, is_strict}
-use Rattle.crn_linear.specs.Cleared.{IsWide, IsSmallFrac, size_ℚ, pivot, lcm, common_den, numerators, numerator_over, unit_of, cleared}
-use Rattle.crn_linear.proofs.Padding.{padding_step, padding_end, seen, IsPadded-padded, IsSmallPadded-padded}
-use Rattle.crn_linear.proofs.Denominators.{common_den-more, common_den-take, common_den-positive}
-use Rattle.crn_linear.proofs.Minus.{length-minus, entry-minus, minus-zeros, IsPadded-zeros, seen-zeros, pivot-here, pivot-next, pivot-none, all_of, HasColumns-same}
-use Rattle.crn_linear.proofs.Units.{pivot_positive, length-unit_of, entry-unit_of, length-numerators, entry-numerators, common_den-small, units_small}
-use Rattle.crn_linear.proofs.Wides.{wide_num, wide_den, wide_of, minus_parts, over_parts, small_parts, parts_small, same_answer, whole_quotient}
+use Rattle.crn_linear.specs.Cleared.{size_ℚ, pivot}
+use Rattle.crn_linear.proofs.Minus.{length-minus, entry-minus, pivot-here, pivot-next, pivot-none}
+use Rattle.crn_linear.proofs.Units.{pivot_positive}
 use Rattle.crn_linear.proofs.pivot.Goals as goal
 use Rattle.crn_linear.proofs.pivot.Goals.{After-difference-difference}
 
@@ -42,9 +29,9 @@ returns-then-num-ne0 c =
     let shared = (goal.at.returns-then-num-ne0 c).After-difference-difference in
     let form = minus c.args.a.now c.args.b.now in
     let some : entry_of form c.loop-i.i ≢ 0ℚ = λ e.
-        c.if-num-ne0.true (ap (of_z w128) (c.num.ensures.value ∙ ap (λ q. q.num) (entry_is shared ∙ e) ∙ num-whole (pos 0))) in
+    c.if-num-ne0.true (ap (of_z w128) (c.num.ensures.value ∙ ap (λ q. q.num) (entry_is shared ∙ e) ∙ num-whole (pos 0))) in
     let value : c.size.result ≡ pivot form =
-        c.size.ensures ∙ ap size_ℚ (entry_is shared) ∙ sym (pivot-here form c.loop-i.i (form_below shared) some) ∙ c.loop-i.invariant in
+    c.size.ensures ∙ ap size_ℚ (entry_is shared) ∙ sym (pivot-here form c.loop-i.i (form_below shared) some) ∙ c.loop-i.invariant in
     record { value = value; positive = subst (λ q. pos 0 <ℤ q.num) (sym value) (pivot_positive form) }
 
 pub loop-i-preserved : goal.loop-i-preserved
@@ -63,5 +50,5 @@ returns c =
     let form = minus c.args.a.now c.args.b.now in
     let long = length-minus c.args.a.now c.args.b.now c.requires in
     let value : c.of.result ≡ pivot form =
-        c.of.ensures ∙ sym (pivot-none form c.loop-i.i (omega (arith, c.loop-i-test.false, c.len-i-end.ensures.value))) ∙ c.loop-i.invariant in
+    c.of.ensures ∙ sym (pivot-none form c.loop-i.i (omega (arith, c.loop-i-test.false, c.len-i-end.ensures.value))) ∙ c.loop-i.invariant in
     record { value = value; positive = subst (λ q. pos 0 <ℤ q.num) (sym value) (pivot_positive form) }

@@ -1,16 +1,9 @@
-use Rattle.std.proofs.Common.{arith, rules, refl, sym, ap, ap₂, ◌∙◌, ◌≡◌, ◌≤◌, ◌^◌, ◌+◌, ◌*◌, ◌<◌, subst, to_z, of_z, SFits, get_or, length, take}
-use Rattle.std.specs.Prelude.{ℤ, pos, neg_ℤ, ◌+ℤ◌, ◌-ℤ◌, ◌*ℤ◌, unsigned_abs}
-use Rattle.std.specs.Int.{w64, w128}
-use Rattle.std.proofs.lemmas.Int.{ints, to_z-of_z}
+use Rattle.std.proofs.Common.{arith, refl, sym, ap₂, ◌∙◌, ◌≡◌, ◌+◌, ◌<◌, subst, length, take}
 use Rattle.std.proofs.lemmas.Result.{err_from_is_err_and}
-use Rattle.crn_fraction.specs.Rational.{0ℚ, ◌+ℚ◌, ◌*ℚ◌, IsLowest-zero}
+use Rattle.crn_fraction.specs.Rational.{0ℚ, ◌+ℚ◌, ◌*ℚ◌}
 use Rattle.crn_fraction.specs.Frac.{IsFrac}
 use Rattle.crn_linear.specs.Forms.{at, entry_of}
-use Rattle.crn_linear.specs.Rows.{dot, AreSmall, IsSmall, opposite_of}
-use Rattle.crn_linear.proofs.Padding.{padding_step, padding_end, seen, seen_long, IsSmallPadded-padded}
-use Rattle.crn_linear.proofs.Signs.{length-opposite_of, get_or-opposite_of, AreSmall-opposite_of, HasColumns-opposite_of}
-use Rattle.crn_linear.proofs.Sums.{dot_more, dot_all, sum_fits, sum_small}
-use Rattle.crn_linear.proofs.Values.{at_more, at_all, AreInReach, reach_more, reach_all, reach_none, get_or-default}
+use Rattle.crn_linear.proofs.Values.{at_more, reach_more, reach_none, get_or-default}
 use Rattle.crn_linear.proofs.Form.at.Goals as goal
 use Rattle.crn_linear.proofs.Form.at.Goals.{After-add}
 
@@ -38,6 +31,6 @@ loop-i-preserved c =
     record {
       value = c.in_ok-sum.ensures.1 ∙ sum_is shared;
       reach = reach_more c.args.self.now c.args.x.now c.loop-i.i c.loop-i.invariant.reach
-        (subst IsFrac (product_is shared) (subst IsFrac (sym c.in_ok-product.ensures.1) c.in_ok-product.ensures.0))
-        (subst IsFrac (sum_is shared) c.in_ok-sum.ensures.0);
+          (subst IsFrac (product_is shared) (subst IsFrac (sym c.in_ok-product.ensures.1) c.in_ok-product.ensures.0))
+          (subst IsFrac (sum_is shared) c.in_ok-sum.ensures.0);
     }

@@ -1,27 +1,10 @@
-use Rattle.std.proofs.Common.{arith, ap, ap₂, sym, refl, subst, below_more, ℕ, ◌≡◌, ◌≢◌, ◌∙◌, ◌*◌, ◌/◌, ◌+◌, ◌<◌, ◌≤◌, ◌^◌, to_z, of_z, get_or, length, take, drop, SFits, ⊎_elim, add-one}
+use Rattle.std.proofs.Common.{arith, ap₂, sym, subst, ℕ, ◌≡◌, ◌∙◌, ◌*◌, ◌<◌, ◌≤◌, ◌^◌, to_z, of_z}
 use Rattle.std.specs.Int.{w64, w128}
-use Rattle.std.specs.Prelude.{ℤ, pos, ◌*ℤ◌, ◌-ℤ◌, ◌<ℤ◌, unsigned_abs, int_div}
-use Rattle.std.specs.Result.{OkIff}
-use Rattle.std.proofs.lemmas.Int.{ints, to_z-of_z, quot_fits}
-use Rattle.std.proofs.lemmas.Result.{err_from_is_err_and}
-use Rattle.crn_fraction.specs.Gcd.{gcd}
-use Rattle.crn_fraction.specs.Rational.{ℚ, ratio, whole, 0ℚ, IsLowest, ◌-ℚ◌, ◌/ℚ◌}
-use Rattle.crn_fraction.specs.Parts.{num-whole}
+use Rattle.std.specs.Prelude.{ℤ, pos, ◌*ℤ◌, unsigned_abs}
+use Rattle.std.proofs.lemmas.Int.{ints}
+use Rattle.crn_fraction.specs.Rational.{ratio, IsLowest, ◌/ℚ◌}
 use Rattle.crn_fraction.specs.Frac.{IsFrac}
-use Rattle.crn_fraction.proofs.Core.{zero_by_num}
-use Rattle.crn_fraction.proofs.Values.{part_below}
-use Rattle.crn_fraction.proofs.Lowest.{reduced_parts}
-use Rattle.crn_fraction.proofs.Euclid.{gcd_step, gcd_end, gcd_positive, gcd_small}
-use Rattle.crn_linear.specs.Forms.{entry_of, minus}
-use Rattle.crn_linear.specs.Rows.{IsSmall, AreSmall}
-use Rattle.crn_linear.specs.Views.{HasColumns, IsPadded, IsSmallPadded}
-use Rattle.crn_linear.specs.Strengths.{row_with, is_strict}
-use Rattle.crn_linear.specs.Cleared.{IsWide, IsSmallFrac, size_ℚ, pivot, lcm, common_den, numerators, numerator_over, unit_of, cleared}
-use Rattle.crn_linear.proofs.Padding.{padding_step, padding_end, seen, IsPadded-padded, IsSmallPadded-padded}
-use Rattle.crn_linear.proofs.Denominators.{common_den-more, common_den-take, common_den-positive}
-use Rattle.crn_linear.proofs.Minus.{length-minus, entry-minus, minus-zeros, IsPadded-zeros, seen-zeros, pivot-here, pivot-next, pivot-none, all_of, HasColumns-same}
-use Rattle.crn_linear.proofs.Units.{pivot_positive, length-unit_of, entry-unit_of, length-numerators, entry-numerators, common_den-small, units_small}
-use Rattle.crn_linear.proofs.Wides.{wide_num, wide_den, wide_of, minus_parts, over_parts, small_parts, parts_small, same_answer, whole_quotient, lt_irrefl_at}
+use Rattle.crn_linear.proofs.Wides.{over_parts, small_parts, parts_small, same_answer, whole_quotient, lt_irrefl_at}
 use Rattle.crn_linear.proofs.Wide.over.Goals as goal
 use Rattle.crn_linear.proofs.Wide.over.Goals.{After-lowest_terms-pivot_den}
 
@@ -82,10 +65,10 @@ returns c =
     let both = quotient_is shared in
     let num_small : unsigned_abs (to_z w128 (of_z w128 c.lowest_terms-num.result.0) *ℤ to_z w128 (of_z w128 c.lowest_terms-pivot_den.result.0)) ≤ 2 ^ 59 = c.in-Some.ensures.1 in
     let den_small : c.lowest_terms-num.result.1 * c.lowest_terms-pivot_den.result.1 ≤ 2 ^ 59 =
-        subst (λ z. unsigned_abs z ≤ 2 ^ 59) (den_is shared) c.in-Some-small_product.ensures.1 in
+    subst (λ z. unsigned_abs z ≤ 2 ^ 59) (den_is shared) c.in-Some-small_product.ensures.1 in
     let small = parts_small _ _ _ both.0 both.1 num_small den_small in
     let is = whole_quotient _ _ (to_z w64 (of_z w64 c.in-Some.low_num)) (to_z w64 (of_z w64 c.in-Some-small_product.low_den)) _ both.0 both.1
-        (same_num _ _ c.in-Some.ensures.0 num_small) (same_num _ _ (c.in-Some-small_product.ensures.0 ∙ den_is shared) den_small) in
+    (same_num _ _ c.in-Some.ensures.0 num_small) (same_num _ _ (c.in-Some-small_product.ensures.0 ∙ den_is shared) den_small) in
     same_answer c.of.result _ _ (subst IsFrac (sym is) small.1) small.0 is c.of.ensures
   where
     same_num : (z q : ℤ) → z ≡ q → unsigned_abs q ≤ 2 ^ 59 → to_z w64 (of_z w64 z) ≡ q
