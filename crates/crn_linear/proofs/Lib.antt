@@ -7,3 +7,4 @@ pub mod Units
 pub mod Wides
 pub mod Minus
 pub mod Multiples
+pub mod Unique

@@ -27,6 +27,13 @@ wide_den n d q e w = sym (wide_parts n d w).1 ∙ ap (λ r. r.den) e
 pub wide_of : (x : ℤ) (k : ℕ) (n : ℤ) (d : ℕ) → n ≡ (ratio x k).num → d ≡ (ratio x k).den → unsigned_abs n < 2 ^ 127 → d < 2 ^ 127 → IsWide n d
 wide_of x k n d e f g h = record { lowest = (reduced_parts x k n d e f).0; num_fits = g; den_fits = h }
 
+-- and so may the parts of a fraction
+pub wide_self : (q : ℚ) (n : ℤ) (d : ℕ) → n ≡ q.num → d ≡ q.den → IsFrac q → IsWide n d
+wide_self q n d e f h =
+    let num : unsigned_abs n < 2 ^ 63 = rw e h.num_fits in
+    let den : d < 2 ^ 63 = rw f h.den_fits in
+    record { lowest = rw (e, f) q.lowest; num_fits = omega arith; den_fits = omega arith }
+
 neg_parts : (b : ℚ) → neg_ℚ b ≡ ratio (neg_ℤ b.num) b.den
 unfolding neg_ℚ
 neg_parts b = refl

@@ -2,17 +2,18 @@
 //! rows are exact.
 #![tactic(auto)]
 
-ghost use Rattle.std.specs.Prelude.{◌≡◌, ℕ, ◌+◌, ◌*◌, ◌<◌, ◌≤◌, ◌^◌, ℤ, pos, ◌+ℤ◌, ◌*ℤ◌, ◌<ℤ◌, unsigned_abs, List, length, slice_index_or, MatchOption};
+ghost use Rattle.std.specs.Prelude.{◌≡◌, ◌↔◌, ℕ, ◌+◌, ◌*◌, ◌<◌, ◌≤◌, ◌^◌, ℤ, pos, ◌+ℤ◌, ◌*ℤ◌, ◌<ℤ◌, unsigned_abs, List, length, slice_index_or, MatchOption};
 ghost use Rattle.std.specs.List.{All};
 ghost use Rattle.std.specs.Result.{OkIff};
 ghost use Rattle.std.specs.Ordering.{int_cmp};
 ghost use Rattle.crn_fraction.specs.Gcd.{gcd};
-ghost use Rattle.crn_fraction.specs.Rational.{ℚ, ratio, ◌-ℚ◌, ◌/ℚ◌};
+ghost use Rattle.crn_fraction.specs.Rational.{ℚ, 0ℚ, ratio, ◌-ℚ◌, ◌/ℚ◌};
 ghost use Rattle.crn_linear.specs.Forms.{at, entry_of, minus, IsValueInReach};
-ghost use Rattle.crn_linear.specs.Rows.{dot, IsSmall, AreSmall, opposite_of};
+ghost use Rattle.crn_linear.specs.Rows.{dot, IsBelow, Meets, IsSmall, AreSmall, opposite_of};
 ghost use Rattle.crn_linear.specs.Cleared.{IsCleared, pivot, size_ℚ, common_den, unit_of, numerators, cleared, IsSmallFrac};
 ghost use Rattle.crn_linear.specs.Views.{HasColumns, padded};
 ghost use Rattle.crn_linear.specs.Strengths.{is_strict, row_with};
+ghost use Rattle.crn_linear.specs.declared.Strength.{Strength};
 
 use crn_fraction::{Frac, TooBig};
 use std::cmp::Ordering;
@@ -251,10 +252,14 @@ pub fn opposite(row: &Row, strength: Strength) -> Row
     }
 }
 
-/// The cleared row of a form is a positive multiple of it, and no number but 1 divides all of its entries unless they are all 0.
+/// What the cleared row of a form is: a positive multiple of the form, with no number but 1 that divides all of its entries
+/// unless they are all 0. No other row is so, and a point meets it where the form's value is at least 0, or above it.
 pub fn clearing()
-    ensures { (form : List ℚ) → IsCleared form (cleared form) }
-{}
+    ensures is { (form : List ℚ) → IsCleared form (cleared form) }
+    ensures only { (form : List ℚ) (row : List ℤ) → IsCleared form row → row ≡ cleared form }
+    ensures meets { (form x : List ℚ) (strength : Strength) → Meets (row_with (cleared form) strength) x ↔ IsBelow (is_strict strength) 0ℚ (at form x) }
+{
+}
 
 /// The row of a form: its positive multiple whose entries are whole with greatest common divisor 1, or the zero row. It is
 /// refused where an entry passes 2^59 in size.
@@ -334,6 +339,12 @@ impl Wide {
     fn difference(a: Frac, b: Frac) -> Wide
         ensures { result ≡ a -ℚ b }
     {
+        if b.is_zero() {
+            return Wide {
+                num: a.num() as i128,
+                den: a.den() as u128,
+            };
+        }
         Wide::of(cross(a, b) - cross(b, a), shared_den(a, b))
     }
 
