@@ -28,6 +28,7 @@ left-dvd-lcm a b = subst (λ n. a ∣ n) (lcm-other a b) (dvd-mul_right a (b / g
 pub right-dvd-lcm : (a b : ℕ) → b ∣ lcm a b
 right-dvd-lcm a b = dvd-mul_left b (a / gcd a b)
 
+-- and it is positive
 pub lcm-positive : (a b : ℕ) → 0 < a → 0 < b → 0 < lcm a b
 lcm-positive a b p q = subst (λ n. 0 < n) (lcm-other a b) (times_pos a (b / gcd a b) p (right-over_gcd_pos a b q))
 
@@ -93,6 +94,7 @@ den-dvd-common_den xs i h = den-dvd-from 1 xs i h
 pub take-dvd-common_den : (xs : List ℚ) (k : ℕ) → common_den (take k xs) ∣ common_den xs
 take-dvd-common_den xs k = take-dvd-from 1 xs k
 
+-- it is positive
 pub common_den-positive : (xs : List ℚ) → 0 < common_den xs
 common_den-positive xs = from-positive 1 xs (omega arith)
 
@@ -107,5 +109,6 @@ common_den-least xs n k = from-least 1 xs n (subst (λ m. 1 ∣ m) (just n) (dvd
 pub common_den-more : (xs : List ℚ) (i : ℕ) → i < length xs → common_den (take (suc i) xs) ≡ lcm (common_den (take i xs)) (entry_of xs i).den
 common_den-more xs i h = from-more 1 xs i h
 
+-- and so it is no less than that of the first few
 pub common_den-take : (xs : List ℚ) (k : ℕ) → common_den (take k xs) ≤ common_den xs
 common_den-take xs k = le_of_dvd (common_den-positive xs) (take-dvd-common_den xs k)

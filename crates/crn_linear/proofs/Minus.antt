@@ -11,6 +11,7 @@ use Rattle.crn_linear.specs.Cleared.{size_ℚ, pivot}
 use Rattle.crn_linear.specs.Views.{HasColumns, IsPadded}
 use Rattle.crn_linear.proofs.Values.{get_or-default}
 
+-- the difference has as many columns
 pub length-minus : (a b : List ℚ) → length a ≡ length b → length (minus a b) ≡ length a
 length-minus [] b e = refl
 length-minus (x ∷ a) [] e = absurd (omega (arith, e))
@@ -32,6 +33,7 @@ minus-zeros (x ∷ a) = ap₂ (λ y ys. y ∷ ys) (sub_ℚ-zero x) (minus-zeros 
 pub IsPadded-zeros : (n : ℕ) → 1 ≤ n → n ≤ 9 → IsPadded 0ℚ n (replicate 9 0ℚ)
 IsPadded-zeros n p q = record { some = p; few = q; nine = length-replicate 9 0ℚ; rest = drop-replicate n 9 0ℚ }
 
+-- and the first few of them
 pub seen-zeros : (n : ℕ) → n ≤ 9 → take n (replicate 9 0ℚ) ≡ replicate n 0ℚ
 seen-zeros n q = take-replicate n 9 0ℚ q
 
@@ -48,9 +50,11 @@ next (x ∷ form) zero h e =
     ⊎_elim (λ z. ap (λ t. cond t (pivot form) (size_ℚ x)) (sym z.1)) (λ z. absurd (z.0 e)) (is_zero_ℚ_cases x)
 next (x ∷ form) (suc i) h e = next form i (omega arith) e
 
+-- a 0 is passed over
 pub pivot-next : (form : List ℚ) (i : ℕ) → i < length form → entry_of form i ≡ 0ℚ → pivot (drop (i + 1) form) ≡ pivot (drop i form)
 pivot-next form i h e = rw add-one (next form i h e)
 
+-- where none is left it is 1
 pub pivot-none : (form : List ℚ) (i : ℕ) → length form ≤ i → pivot (drop i form) ≡ whole (pos 1)
 pivot-none [] zero h = refl
 pivot-none [] (suc i) h = refl
@@ -62,5 +66,6 @@ pivot-none (x ∷ form) (suc i) h = pivot-none form i (omega arith)
 pub all_of : {X : Type 0} (P : X → Type 0) (xs : List X) (z : X) → ((k : ℕ) → k < length xs → P (get_or xs k z)) → All P xs
 all_of P xs z f k d h = subst P (get_or-default xs k z d h) (f k h)
 
+-- lists of one length have columns alike
 pub HasColumns-same : {X Y : Type 0} (xs : List X) (ys : List Y) → length ys ≡ length xs → HasColumns xs → HasColumns ys
 HasColumns-same xs ys e c = record { some = omega (arith, e, c.some); few = omega (arith, e, c.few) }

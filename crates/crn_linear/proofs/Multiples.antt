@@ -56,6 +56,7 @@ over_positive b k h l =
     absurd (not_<ℚ b 0ℚ below h))
     (λ lt. lt) (≤ℚ_or_<ℚ (b /ℚ k) 0ℚ)
 
+-- the numerators are a positive multiple of the form
 pub cleared_multiple : (form : List ℚ) → IsMultiple form (numerators (unit_of form))
 cleared_multiple form =
     let us = unit_of form in
@@ -108,6 +109,7 @@ by_sign d n e l f g h =
     let one : 1 * (l / 1) ≡ l = omega arith in
     subst (λ t. d ∣ t) one k
 
+-- nothing but 1 divides all of the numerators
 pub no_divisor : (form : List ℚ) (i : ℕ) → i < length form → IsSign (entry_of (unit_of form) i) → HaveNoDivisor (numerators (unit_of form))
 no_divisor form i h sign d all =
     let us = unit_of form in

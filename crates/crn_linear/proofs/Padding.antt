@@ -41,6 +41,7 @@ module _ {X : Type 0} (z : X) where
     rest = ap (drop (length xs)) e ∙ drop-append_seam xs (replicate (9 - length xs) z);
   }
 
+  -- and what is seen of them is the list
   pub seen : (xs places : List X) → places ≡ padded z xs → take (length xs) places ≡ xs
   seen xs places e = ap (take (length xs)) e ∙ take-append_seam xs (replicate (9 - length xs) z)
 

@@ -8,6 +8,7 @@ use Rattle.std.proofs.Math.ListN.{get_or-map}
 use Rattle.crn_linear.specs.Rows.{IsSmall, AreSmall, opposite_of}
 use Rattle.crn_linear.specs.Views.{HasColumns}
 
+-- as many entries
 pub length-opposite_of : (xs : List ℤ) → length (opposite_of xs) ≡ length xs
 length-opposite_of xs = length-map xs neg_ℤ
 

@@ -1,11 +1,11 @@
 -- A form has one cleared row, and a point meets that row exactly where the form's value has its sign.
-use Rattle.std.proofs.Common.{◌≡◌, ◌⊎◌, ◌↔◌, inl, inr, ⊎_elim, ℕ, zero, suc, ◌+◌, ◌*◌, ◌/◌, ◌<◌, ◌≤◌, List, [], ◌∷◌, length, get_or, map, Bool, true, false, refl, sym, ap, ap₂, ◌∙◌, subst, arith}
+use Rattle.std.proofs.Common.{◌≡◌, ◌⊎◌, ◌↔◌, inl, inr, ⊎_elim, ℕ, ◌*◌, ◌/◌, ◌<◌, List, [], ◌∷◌, length, get_or, map, Bool, true, false, refl, sym, ap, ◌∙◌, subst, arith}
 use Rattle.std.specs.Prelude.{ℤ, pos, ◌*ℤ◌, ◌<ℤ◌, unsigned_abs}
 use Rattle.std.specs.List.{All}
 use Rattle.std.specs.Int.{◌∣◌}
 use Rattle.std.proofs.lemmas.Int.{ints, unsigned_abs-mul}
 use Rattle.std.proofs.lemmas.List.{length-map, ext_get_or, get_or-map}
-use Rattle.std.proofs.Math.Nat.{dvd-mul_right, mul_comm}
+use Rattle.std.proofs.Math.Nat.{dvd-mul_right}
 use Rattle.crn_fraction.specs.Gcd.{gcd, IsCoprime, gcd-pos, left-over_gcd, right-over_gcd, IsCoprime-over_gcd}
 use Rattle.crn_fraction.specs.Rational.{ℚ, ratio, whole, 0ℚ, ◌+ℚ◌, ◌*ℚ◌, ◌≤ℚ◌, ◌<ℚ◌}
 use Rattle.crn_fraction.specs.Parts.{ratio_self, num-whole, den-whole}
@@ -18,7 +18,7 @@ use Rattle.crn_fraction.proofs.Linear.{not_<ℚ}
 use Rattle.crn_fraction.proofs.Lowest.{IsCoprime-swap, dvd_other}
 use Rattle.crn_fraction.proofs.Products.{*ℚ-≤ℚ, *ℚ-<ℚ, ≤ℚ_of_*ℚ}
 use Rattle.crn_linear.specs.Forms.{at, entry_of, wholes}
-use Rattle.crn_linear.specs.Rows.{Row, value, IsBelow, Meets}
+use Rattle.crn_linear.specs.Rows.{value, IsBelow, Meets}
 use Rattle.crn_linear.specs.Cleared.{IsMultiple, HaveNoDivisor, IsCleared, cleared}
 use Rattle.crn_linear.proofs.Minus.{all_of}
 use Rattle.crn_linear.proofs.Multiples.{cleared_is}
@@ -44,9 +44,9 @@ cross_entries : (a b : ℚ) (x y : ℤ) → 0ℚ <ℚ a → 0ℚ <ℚ b → a *�
     → pos (unsigned_abs a.num * b.den) *ℤ y ≡ pos (unsigned_abs b.num * a.den) *ℤ x
 cross_entries a b x y p q e =
     let side : (c : ℚ) (z : ℤ) → c *ℚ whole z ≡ ratio (c.num *ℤ z) (c.den * 1) = λ c z.
-        ap (λ r. r *ℚ whole z) (sym (ratio_self c)) ∙ ratio-*ℚ c.num c.den z 1 c.lowest.positive (omega arith) in
+    ap (λ r. r *ℚ whole z) (sym (ratio_self c)) ∙ ratio-*ℚ c.num c.den z 1 c.lowest.positive (omega arith) in
     let cross = same_from_ratio (a.num *ℤ y) (b.num *ℤ x) (a.den * 1) (b.den * 1)
-        (times_pos a.den 1 a.lowest.positive (omega arith)) (times_pos b.den 1 b.lowest.positive (omega arith)) (sym (side a y) ∙ e ∙ side b x) in
+    (times_pos a.den 1 a.lowest.positive (omega arith)) (times_pos b.den 1 b.lowest.positive (omega arith)) (sym (side a y) ∙ e ∙ side b x) in
     arranged (unsigned_abs a.num) b.den y ∙ ap (λ n. (n *ℤ y) *ℤ pos (b.den * 1)) (sym (sized a.num (positive_num a p)))
     ∙ cross ∙ ap (λ n. (n *ℤ x) *ℤ pos (a.den * 1)) (sized b.num (positive_num b q)) ∙ sym (arranged (unsigned_abs b.num) a.den x)
   where
@@ -97,7 +97,7 @@ module _ (u v : ℕ) (r s : List ℤ) (p : 0 < u) (q : 0 < v) (long : length s �
       let one : a ≡ 1 = f a (all_of (λ n. a ∣ unsigned_abs n) r (pos 0) (λ i l. divides_other a b _ _ (IsCoprime-swap a b apart) (low i l))) in
       let other : b ≡ 1 = h b (all_of (λ n. b ∣ unsigned_abs n) s (pos 0) (λ i l. divides_other b a _ _ apart (sym (low i (subst (λ n. i < n) long l))))) in
       ext_get_or (pos 0) r s (sym long) (λ i l. same _ _ (subst (λ n. pos 1 *ℤ get_or s i (pos 0) ≡ pos n *ℤ get_or r i (pos 0)) other
-        (subst (λ n. pos n *ℤ get_or s i (pos 0) ≡ pos b *ℤ get_or r i (pos 0)) one (low i l))))
+      (subst (λ n. pos n *ℤ get_or s i (pos 0) ≡ pos b *ℤ get_or r i (pos 0)) one (low i l))))
     where
       same : (x y : ℤ) → pos 1 *ℤ y ≡ pos 1 *ℤ x → x ≡ y
       same x y h = omega (arith, ints)
@@ -127,15 +127,16 @@ one_cleared form r s c d =
     same_rows (unsigned_abs a.num * b.den) (unsigned_abs b.num * a.den) r s
     (times_pos _ _ (size_above a c.multiple.positive) b.lowest.positive) (times_pos _ _ (size_above b d.multiple.positive) a.lowest.positive) long
     (λ i h.
-      let x = get_or r i (pos 0) in
-      let y = get_or s i (pos 0) in
-      let t = entry_of form i in
-      let first : whole x ≡ a *ℚ t = entry-multiple form r c.multiple i h in
-      let second : whole y ≡ b *ℚ t = entry-multiple form s d.multiple i (subst (λ n. i < n) (sym long) h) in
-      cross_entries a b x y c.multiple.positive d.multiple.positive
-      (ap (λ z. a *ℚ z) second ∙ ring_ℚ (a ∷ b ∷ t ∷ []) {y = b *ℚ (a *ℚ t)} (search q-writes depth 20) (search q-writes depth 20) refl ∙ ap (λ z. b *ℚ z) (sym first)))
+    let x = get_or r i (pos 0) in
+    let y = get_or s i (pos 0) in
+    let t = entry_of form i in
+    let first : whole x ≡ a *ℚ t = entry-multiple form r c.multiple i h in
+    let second : whole y ≡ b *ℚ t = entry-multiple form s d.multiple i (subst (λ n. i < n) (sym long) h) in
+    cross_entries a b x y c.multiple.positive d.multiple.positive
+    (ap (λ z. a *ℚ z) second ∙ ring_ℚ (a ∷ b ∷ t ∷ []) {y = b *ℚ (a *ℚ t)} (search q-writes depth 20) (search q-writes depth 20) refl ∙ ap (λ z. b *ℚ z) (sym first)))
     c.lowest d.lowest
 
+-- and it is the one that the plain function computes
 pub cleared_only : (form : List ℚ) (row : List ℤ) → IsCleared form row → row ≡ cleared form
 cleared_only form row c = one_cleared form row (cleared form) c (cleared_is form)
 

@@ -21,15 +21,18 @@ use Rattle.crn_linear.proofs.Denominators.{den-dvd-common_den, common_den-positi
 size_lowest : (x : ℚ) → IsLowest (pos (unsigned_abs x.num)) x.den
 size_lowest x = record { positive = x.lowest.positive; coprime = x.lowest.coprime }
 
+-- the size has the numerator without its sign
 pub num-size_ℚ : (x : ℚ) → (size_ℚ x).num ≡ pos (unsigned_abs x.num)
 num-size_ℚ x = ap (λ q. q.num) (ratio_lowest (pos (unsigned_abs x.num)) x.den (size_lowest x))
 
+-- and the same denominator
 pub den-size_ℚ : (x : ℚ) → (size_ℚ x).den ≡ x.den
 den-size_ℚ x = ap (λ q. q.den) (ratio_lowest (pos (unsigned_abs x.num)) x.den (size_lowest x))
 
 num_not_zero : (x : ℚ) → x ≢ 0ℚ → x.num ≡ pos 0 → ⊥
 num_not_zero x h e = h (zero_by_num x e)
 
+-- the size of a number other than 0 is above 0
 pub size_positive : (x : ℚ) → x ≢ 0ℚ → pos 0 <ℤ (size_ℚ x).num
 size_positive x h =
     let some = num_not_zero x h in
@@ -58,6 +61,7 @@ pivot_cases (x ∷ form) = by_test (is_zero_ℚ_cases x) (pivot_cases form)
     by_test (inl z) (inr (i, h, f, e)) = inr (suc i, omega arith, f, ap (λ t. cond t (pivot form) (size_ℚ x)) z.1 ∙ e)
     by_test (inr n) r = inr (0, omega arith, n.0, ap (λ t. cond t (pivot form) (size_ℚ x)) n.1)
 
+-- either way it is above 0
 pub pivot_positive : (form : List ℚ) → pos 0 <ℤ (pivot form).num
 pivot_positive form =
     ⊎_elim (λ none. subst (λ q. pos 0 <ℤ q.num) (sym none.1) (rw (num-whole (pos 1)) (omega (arith, ints))))
@@ -106,9 +110,11 @@ over_size x h =
         ∙ ap neg_ℚ (*ℚ-inverse s some) ∙ ring_ℚ [] {y = whole (negsuc 0)} (search q-writes depth 20) (search q-writes depth 20) refl
 
 -- ---- entries
+-- as many entries as the form
 pub length-unit_of : (form : List ℚ) → length (unit_of form) ≡ length form
 length-unit_of form = length-map form (λ x. x /ℚ pivot form)
 
+-- each entry over the first that is not 0
 pub entry-unit_of : (form : List ℚ) (i : ℕ) → i < length form → entry_of (unit_of form) i ≡ entry_of form i /ℚ pivot form
 entry-unit_of form i h = lists.get_or-map (λ x. x /ℚ pivot form) form i 0ℚ 0ℚ h
 
@@ -116,9 +122,11 @@ entry-unit_of form i h = lists.get_or-map (λ x. x /ℚ pivot form) form i 0ℚ 
 pub unit_sign : (form : List ℚ) (i : ℕ) → i < length form → entry_of form i ≢ 0ℚ → pivot form ≡ size_ℚ (entry_of form i) → IsSign (entry_of (unit_of form) i)
 unit_sign form i h n e = subst IsSign (sym (entry-unit_of form i h ∙ ap (λ p. entry_of form i /ℚ p) e)) (over_size (entry_of form i) n)
 
+-- one numerator for each entry
 pub length-numerators : (xs : List ℚ) → length (numerators xs) ≡ length xs
 length-numerators xs = length-map xs (numerator_over (common_den xs))
 
+-- over the least common denominator
 pub entry-numerators : (xs : List ℚ) (i : ℕ) → i < length xs → get_or (numerators xs) i (pos 0) ≡ numerator_over (common_den xs) (entry_of xs i)
 entry-numerators xs i h = lists.get_or-map (numerator_over (common_den xs)) xs i 0ℚ (pos 0) h
 

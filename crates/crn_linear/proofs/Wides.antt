@@ -20,6 +20,7 @@ wide_num n d q e w =
     let fits : to_z w128 (of_z w128 n) ≡ n = omega (arith, ints, w.num_fits) in
     fits ∙ sym (wide_parts n d w).0 ∙ ap (λ r. r.num) e
 
+-- the denominator too
 pub wide_den : (n : ℤ) (d : ℕ) (q : ℚ) → ratio n d ≡ q → IsWide n d → d ≡ q.den
 wide_den n d q e w = sym (wide_parts n d w).1 ∙ ap (λ r. r.den) e
 
@@ -80,6 +81,7 @@ small_parts n d q l e s =
     let f = sym (ratio_lowest n d l) ∙ e in
     (subst (λ z. unsigned_abs z ≤ 2 ^ 59) (sym (ap (λ r. r.num) f)) s.num_small, subst (λ k. k ≤ 2 ^ 59) (sym (ap (λ r. r.den) f)) s.den_small)
 
+-- and the other way round
 pub parts_small : (n : ℤ) (d : ℕ) (q : ℚ) → IsLowest n d → ratio n d ≡ q → unsigned_abs n ≤ 2 ^ 59 → d ≤ 2 ^ 59 → IsSmallFrac q × IsFrac q
 parts_small n d q l e h k =
     let f = sym (ratio_lowest n d l) ∙ e in

@@ -42,6 +42,7 @@ MeetsWhole r p = IsBelow_ℤ r.strict (pos 0) (dot r.entries p)
 pub record IsSmall (z : ℤ) : Type 0 where
   pub size : unsigned_abs z ≤ 2 ^ 59
 
+-- all of them are
 abbrev pub AreSmall : List ℤ → Type 0
 AreSmall xs = All IsSmall xs
 

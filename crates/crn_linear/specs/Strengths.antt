@@ -15,6 +15,7 @@ abbrev pub strength_of : Bool → Strength
 strength_of false = Weak
 strength_of true = Strict
 
+-- a strength is told by whether it is strict
 pub strength_back : (s : Strength) → strength_of (is_strict s) ≡ s
 strength_back Weak = refl
 strength_back Strict = refl

@@ -258,8 +258,7 @@ pub fn clearing()
     ensures is { (form : List ℚ) → IsCleared form (cleared form) }
     ensures only { (form : List ℚ) (row : List ℤ) → IsCleared form row → row ≡ cleared form }
     ensures meets { (form x : List ℚ) (strength : Strength) → Meets (row_with (cleared form) strength) x ↔ IsBelow (is_strict strength) 0ℚ (at form x) }
-{
-}
+{}
 
 /// The row of a form: its positive multiple whose entries are whole with greatest common divisor 1, or the zero row. It is
 /// refused where an entry passes 2^59 in size.
