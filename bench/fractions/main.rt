@@ -1,10 +1,10 @@
 //! Times many operations on fractions, forms and rows, and prints the nanoseconds of each.
 #![tactic(auto)]
 
-ghost use Rattle.std.specs.Prelude.{◌≡◌, length};
+ghost use Rattle.std.specs.Prelude.{◌≡◌, ◌+◌, ◌≤◌, length};
 
 use crn_fraction::Frac;
-use crn_linear::{Form, Point, Row, Strength, difference_row, row_of};
+use crn_linear::{Form, Strength, row_of};
 use std::cmp::Ordering;
 use std::io;
 use std::time::Instant;
@@ -19,9 +19,7 @@ fn next(state: u64) -> u64 {
 }
 
 // Fractions with numerators of size below `nums` and denominators from 1 to `dens`.
-fn table(nums: u64, dens: u64) -> [Frac; 64]
-    ensures { length result ≡ 64 }
-{
+fn table(nums: u64, dens: u64) -> [Frac; 64] {
     let mut fractions = [Frac::ONE; 64];
     let mut state = 1u64;
     for i in 0..64usize {
@@ -29,10 +27,10 @@ fn table(nums: u64, dens: u64) -> [Frac; 64]
         let num = (state >> 1) % (nums.max(1));
         state = next(state);
         let den = (state >> 1) % (dens.max(1));
-        let num = if state % 2 == 0 { i64::try_from(num) } else { i64::try_from(num / 2) };
-        if let (Ok(num), Ok(den)) = (num, i64::try_from(den)) {
+        if let (Ok(num), Ok(den)) = (i64::try_from(num), i64::try_from(den)) {
             if let Some(den) = den.checked_add(1) {
                 if den > 0 {
+                    let num = if (state >> 40) % 2 == 0 { num } else { num.wrapping_neg() };
                     if let Ok(fraction) = Frac::of(num, den) {
                         fractions[i] = fraction;
                     }
@@ -80,8 +78,17 @@ fn comparisons(fractions: &[Frac; 64]) -> u64 {
     found
 }
 
-fn values(fractions: &[Frac; 64], form: &Form) -> u64
-    requires { length form.now ≡ 8 }
+// The form of eight fractions.
+fn form(fractions: &[Frac], start: usize) -> Form
+    requires { start + 8 ≤ length fractions.now }
+    ensures { length result ≡ 8 }
+{
+    Form::of(&fractions[start..start + 8])
+}
+
+fn values(fractions: &[Frac], form: &Form) -> u64
+    requires many { length fractions.now ≡ 64 }
+    requires eight { length form.now ≡ 8 }
 {
     let mut found = 0u64;
     for i in 0..ROUNDS / 8 {
@@ -123,19 +130,19 @@ fn main(rt: HostRuntime) -> io::Result<()> {
         let found = found.wrapping_add(comparisons(&fractions));
         let comparison = start.elapsed(&rt)?.as_millis();
         println!(rt; "{name}: a sum {sum} ns, a product {product} ns, a comparison {comparison} ns ({found})")?;
-        let form = Form::of(&fractions[..8]);
+        let first = form(&fractions, 0);
         let start = Instant::now(&rt)?;
-        let found = values(&fractions, &form);
+        let found = values(&fractions, &first);
         let value = start.elapsed(&rt)?.as_millis().saturating_mul(8);
         let forms = [
-            form,
-            Form::of(&fractions[8..16]),
-            Form::of(&fractions[16..24]),
-            Form::of(&fractions[24..32]),
-            Form::of(&fractions[32..40]),
-            Form::of(&fractions[40..48]),
-            Form::of(&fractions[48..56]),
-            Form::of(&fractions[56..64]),
+            first,
+            form(&fractions, 8),
+            form(&fractions, 16),
+            form(&fractions, 24),
+            form(&fractions, 32),
+            form(&fractions, 40),
+            form(&fractions, 48),
+            form(&fractions, 56),
         ];
         let start = Instant::now(&rt)?;
         let found = found.wrapping_add(rows(&forms));
