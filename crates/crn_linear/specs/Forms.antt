@@ -1,0 +1,51 @@
+-- Linear forms, their values at a point, and the distinct ones of a list.
+use Rattle.std.specs.Prelude.{ℕ, ◌<◌, ◌≤◌, ℤ, List, [], ◌∷◌, map, take, length, slice_index_or, Bool, true, false, cond, ◌==◌}
+use Rattle.std.specs.List.{filter}
+use Rattle.std.specs.Ordering.{int_eq}
+use Rattle.crn_fraction.specs.Rational.{ℚ, whole, 0ℚ, ◌+ℚ◌, ◌-ℚ◌, ◌*ℚ◌}
+use Rattle.crn_fraction.specs.Frac.{IsFrac}
+
+-- the value of a form at a point: the sum of the products, up to the end of the shorter list
+abbrev pub at : List ℚ → List ℚ → ℚ
+at [] x = 0ℚ
+at (c ∷ form) [] = 0ℚ
+at (c ∷ form) (t ∷ x) = c *ℚ t +ℚ at form x
+
+-- whole numbers as rational ones
+abbrev pub wholes : List ℤ → List ℚ
+wholes p = map whole p
+
+-- entry by entry, up to the end of the shorter list
+abbrev pub minus : List ℚ → List ℚ → List ℚ
+minus [] b = []
+minus (x ∷ a) [] = []
+minus (x ∷ a) (y ∷ b) = (x -ℚ y) ∷ minus a b
+
+-- the entry of a form in a column
+abbrev pub entry_of : List ℚ → ℕ → ℚ
+entry_of form i = slice_index_or form i 0ℚ
+
+-- each product of the value, and each sum of the first few of them, is a fraction that fits
+pub record IsValueInReach (form x : List ℚ) : Type 0 where
+  pub products : (i : ℕ) → i < length form → IsFrac (entry_of form i *ℚ entry_of x i)
+  pub sums : (i : ℕ) → i ≤ length form → IsFrac (at (take i form) (take i x))
+
+-- each element once, where it appears first
+abbrev pub distinct : {X : Type 0} → (X → X → Bool) → List X → List X
+distinct same [] = []
+distinct same (x ∷ xs) = x ∷ filter (λ y. cond (same x y) false true) (distinct same xs)
+
+-- two lists have the same elements in the same places
+abbrev pub same_lists : {X : Type 0} → (X → X → Bool) → List X → List X → Bool
+same_lists same [] [] = true
+same_lists same [] (y ∷ ys) = false
+same_lists same (x ∷ xs) [] = false
+same_lists same (x ∷ xs) (y ∷ ys) = cond (same x y) (same_lists same xs ys) false
+
+-- two rational numbers have the same lowest terms
+abbrev pub eq_ℚ : ℚ → ℚ → Bool
+eq_ℚ a b = cond (int_eq a.num b.num) (a.den == b.den) false
+
+-- the distinct forms of a list, by first appearance
+abbrev pub distinct_forms : List (List ℚ) → List (List ℚ)
+distinct_forms forms = distinct (same_lists eq_ℚ) forms

@@ -1,0 +1,5 @@
+pub mod Forms
+pub mod Rows
+pub mod Cleared
+pub mod Views
+pub mod Strengths
