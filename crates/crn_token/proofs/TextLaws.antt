@@ -7,8 +7,9 @@ use Rattle.std.specs.Prelude.{◌==◌, All, flat_map}
 use Rattle.std.specs.List.{before_first, position_or_len}
 use Rattle.crn_token.specs.declared.Token.{Token}
 use Rattle.crn_token.specs.declared.Line.{Line}
-use Rattle.crn_token.specs.Lines.{TokenLine, view, physical_lines, token_line, token_lines_from, tokens_from, without_comment}
-use Rattle.crn_token.specs.Plain.{PlainLine, plain_token, plain_line, kept_line, plain_lines_from, plain_from}
+use Rattle.crn_token.specs.declared.Lines.{Lines}
+use Rattle.crn_token.specs.Lines.{Text, AreLinesOf, TokenLine, view, physical_lines, token_line, token_lines_from, tokens_from, without_comment}
+use Rattle.crn_token.specs.Plain.{PlainLine, plain_token, plain_line, kept_line, plain_lines, plain_lines_from, plain_from}
 use Rattle.crn_token.specs.Spans.{AreInOrder, ArePlaced, IsPlaced, line_tokens}
 use Rattle.crn_token.proofs.Cut.{physical_step}
 use Rattle.crn_token.proofs.PlainLaws.{plains, plains-tokens}
@@ -161,3 +162,16 @@ all_placed size (line ∷ lines) placed = All-cons (IsPlaced size) line lines pl
 -- each token names the line that it stands in, and lies in the text
 pub text_placed : (bytes : List ℕ) (lines : List Line) → map view lines ≡ token_lines_from 1 0 (physical_lines bytes) → All (IsPlaced (length bytes)) lines
 text_placed bytes lines is = all_placed (length bytes) lines (subst (AllPlaced (length bytes)) (sym is) (lines_placed (physical_lines bytes) bytes 1 0 (length bytes) refl (λ some. omega arith)))
+
+lines_of : (bytes : List ℕ) (lines : Lines) → AreLinesOf bytes lines → map view lines.lines.items ≡ token_lines_from 1 0 (physical_lines bytes)
+lines_of bytes lines are = ap (λ (t : Text). t.lines) are
+
+-- the same of the token lines of these bytes
+pub are_lines_say : (bytes : List ℕ) (lines : Lines) → AreLinesOf bytes lines → map (plain_line bytes) lines.lines.items ≡ plain_lines bytes
+are_lines_say bytes lines are = text_says bytes lines.lines.items (lines_of bytes lines are)
+
+pub are_lines_in_order : (bytes : List ℕ) (lines : Lines) → AreLinesOf bytes lines → AreInOrder 0 (length bytes) (flat_map line_tokens lines.lines.items)
+are_lines_in_order bytes lines are = text_in_order bytes lines.lines.items (lines_of bytes lines are)
+
+pub are_lines_placed : (bytes : List ℕ) (lines : Lines) → AreLinesOf bytes lines → All (IsPlaced (length bytes)) lines.lines.items
+are_lines_placed bytes lines are = text_placed bytes lines.lines.items (lines_of bytes lines are)
