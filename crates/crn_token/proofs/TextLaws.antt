@@ -48,7 +48,7 @@ line_here : (rest line : List ℕ) → line ≡ before_first (λ b. b == 10) res
 line_here rest line is = (
   drop (position_or_len (λ b. b == 35) line) line ++ drop (position_or_len (λ b. b == 10) rest) rest,
   sym (parts 10 rest) ∙ ap (λ l. l ++ drop (position_or_len (λ b. b == 10) rest) rest) (sym is ∙ sym (parts 35 line))
-  ∙ append_assoc (without_comment line) (drop (position_or_len (λ b. b == 35) line) line) (drop (position_or_len (λ b. b == 10) rest) rest),
+      ∙ append_assoc (without_comment line) (drop (position_or_len (λ b. b == 35) line) line) (drop (position_or_len (λ b. b == 10) rest) rest),
 )
 
 -- the line feed after a line
@@ -113,10 +113,10 @@ lines_in_order (line ∷ lines) rest number at to cut to_is =
     let more : 0 < length lines → to ≡ at + length line + 1 + length (drop (length line + 1) rest) =
     λ some. omega (arith, length-drop (length line + 1) rest, some_others rest line lines cut some) in
     rw (flat_map-append tokens_in (token_line number o) (token_lines_from (number + 1) (at + length line + 1) lines)) (
-      in_order_append at mid to (flat_map tokens_in (token_line number o)) (flat_map tokens_in (token_lines_from (number + 1) (at + length line + 1) lines))
-      (line_in_order number at mid o (omega arith) (λ ts e. subst (λ (n : ℕ). AreInOrder n mid ts) (add-zero at) (tokens_in_order number plain 0 at mid ts (omega arith) refl e)))
-      (goes_on (number + 1) (at + length line + 1) mid to lines (omega arith) (omega arith)
-      (λ some. lines_in_order lines (drop (length line + 1) rest) (number + 1) (at + length line + 1) to (others_of rest line lines cut) (more some)))
+    in_order_append at mid to (flat_map tokens_in (token_line number o)) (flat_map tokens_in (token_lines_from (number + 1) (at + length line + 1) lines))
+    (line_in_order number at mid o (omega arith) (λ ts e. subst (λ (n : ℕ). AreInOrder n mid ts) (add-zero at) (tokens_in_order number plain 0 at mid ts (omega arith) refl e)))
+    (goes_on (number + 1) (at + length line + 1) mid to lines (omega arith) (omega arith)
+    (λ some. lines_in_order lines (drop (length line + 1) rest) (number + 1) (at + length line + 1) to (others_of rest line lines cut) (more some)))
     )
   where
     some_of : (bs : List ℕ) (ls : List (List ℕ)) → physical_lines bs ≡ ls → 0 < length ls → 0 < length bs
