@@ -3,7 +3,7 @@ use Rattle.std.proofs.Common.{◌≡◌, ℕ, ◌+◌, ◌≤◌, inl, inr, List
 use Rattle.std.proofs.lemmas.Bool.{cases_lt}
 use Rattle.std.proofs.lemmas.List.{take-append-le}
 use Rattle.std.specs.Option.{option_and_then, option_map_or}
-use Rattle.crn_grammar.specs.Table.{Table, after, IsText, Begins, PassesNone, Read, Malformed, Limited, IsAnswer, CanEnd, answer}
+use Rattle.crn_grammar.specs.Table.{Table, Answer, IsFirstWrong, IsTooShort, IsFirstPast, after, IsText, Begins, PassesNone, Read, Malformed, Limited, IsAnswer, CanEnd, answer}
 
 module _ {S L F W : Type 0} (table : Table S L F W) where
   some_alike : (a b : S) → Some a ≡ Some b → a ≡ b
@@ -117,26 +117,91 @@ module _ {S L F W : Type 0} (table : Table S L F W) where
   pub answer_is : CanEnd table → (number : L → ℕ) (end : ℕ) (lines : List L) → IsAnswer table number end lines (answer table number end table.start lines)
   answer_is can_end number end lines = answer_from can_end number end [] lines table.start lines refl refl none_past
 
-  -- a text that passes no limit is read, with its value
-  read_from : (number : L → ℕ) (end : ℕ) (before rest : List L) (s t : S) (f : F) → PassesNone table (before ++ rest) → after table table.start before ≡ Some s → after table s rest ≡ Some t → table.whole t ≡ Some f
-      → answer table number end s rest ≡ Read f
-  read_from number end before [] s t f low here there whole = let same : s ≡ t = some_alike s t there in rw (ap table.whole same ∙ whole) refl
-  read_from number end before (line ∷ rest) s t f low here there whole =
-      go (table.next s line) refl (λ u here' there'. read_from number end (before ++ line ∷ []) rest u t f (subst (PassesNone table) (sym (append_assoc before (line ∷ []) rest)) low) here' there' whole)
+  -- allowed lines that pass no limit lead the answer on
+  along : (number : L → ℕ) (end : ℕ) (before lines rest : List L) (s t : S) → PassesNone table (before ++ lines) → after table table.start before ≡ Some s → after table s lines ≡ Some t
+      → answer table number end s (lines ++ rest) ≡ answer table number end t rest
+  along number end before [] rest s t low here there = ap (λ (u : S). answer table number end u rest) (some_alike s t there)
+  along number end before (line ∷ lines) rest s t low here there =
+      go (table.next s line) refl (λ u here' there'. along number end (before ++ line ∷ []) lines rest u t (subst (PassesNone table) (sym (append_assoc before (line ∷ []) lines)) low) here' there')
     where
-      front : take (length before + 1) (before ++ line ∷ rest) ≡ before ++ line ∷ []
-      front = ap (take (length before + 1)) (sym (append_assoc before (line ∷ []) rest)) ∙ take_at (before ++ line ∷ []) rest (length before + 1) (length-append before (line ∷ []))
+      front : take (length before + 1) (before ++ line ∷ lines) ≡ before ++ line ∷ []
+      front = ap (take (length before + 1)) (sym (append_assoc before (line ∷ []) lines)) ∙ take_at (before ++ line ∷ []) lines (length before + 1) (length-append before (line ∷ []))
 
-      go : (o : Option S) → table.next s line ≡ o → ((u : S) → after table table.start (before ++ line ∷ []) ≡ Some u → after table u rest ≡ Some t → answer table number end u rest ≡ Read f)
-          → option_map_or (λ u. option_map_or (λ what. Limited what) (table.limit u) (answer table number end u rest)) (table.next s line) (Malformed (number line)) ≡ Read f
-      go None e again = let wrong = ap (option_and_then (λ u. after table u rest)) (sym e) ∙ there in absurd (none_some t wrong)
+      go : (o : Option S) → table.next s line ≡ o → ((u : S) → after table table.start (before ++ line ∷ []) ≡ Some u → after table u lines ≡ Some t → answer table number end u (lines ++ rest) ≡ answer table number end t rest)
+          → option_map_or (λ u. option_map_or (λ what. Limited what) (table.limit u) (answer table number end u (lines ++ rest))) (table.next s line) (Malformed (number line)) ≡ answer table number end t rest
+      go None e again = let wrong = ap (option_and_then (λ u. after table u lines)) (sym e) ∙ there in absurd (none_some t wrong)
       go (Some u) e again =
           let here' : after table table.start (before ++ line ∷ []) ≡ Some u = after_more before line s here ∙ e in
-          let quiet : table.limit u ≡ None = low (length before + 1) u (omega arith) (omega (arith, length-append before (line ∷ rest))) (ap (after table table.start) front ∙ here') in
-          rw (e, quiet) (again u here' (ap (option_and_then (λ v. after table v rest)) (sym e) ∙ there))
+          let quiet : table.limit u ≡ None = low (length before + 1) u (omega arith) (omega (arith, length-append before (line ∷ lines))) (ap (after table table.start) front ∙ here') in
+          rw (e, quiet) (again u here' (ap (option_and_then (λ v. after table v lines)) (sym e) ∙ there))
 
+  -- the answer where no line is left
+  abbrev ending : ℕ → Option F → Answer F W
+  ending end o = option_map_or (λ f. Read f) o (Malformed end)
+
+  -- where the answer ends with the lines
+  answer_at_end : (number : L → ℕ) (end : ℕ) (lines : List L) (t : S) → PassesNone table lines → after table table.start lines ≡ Some t → answer table number end table.start lines ≡ ending end (table.whole t)
+  answer_at_end number end lines t low there = ap (answer table number end table.start) (sym (append-nil lines)) ∙ along number end [] lines [] table.start t low refl there
+
+  -- a text that passes no limit is read, with its value
   pub read_is : (number : L → ℕ) (end : ℕ) (lines : List L) (f : F) → IsText table lines f → PassesNone table lines → answer table number end table.start lines ≡ Read f
-  read_is number end lines f (t, there, whole) low = read_from number end [] lines table.start t f low refl there whole
+  read_is number end lines f (t, there, whole) low = answer_at_end number end lines t low there ∙ rw whole refl
+
+  -- what leads on has led somewhere before
+  leads : (lines more : List L) (t : S) → after table table.start (lines ++ more) ≡ Some t → (s : S) × (after table table.start lines ≡ Some s) × (after table s more ≡ Some t)
+  leads lines more t there = go (after table table.start lines) refl
+    where
+      go : (o : Option S) → after table table.start lines ≡ o → (s : S) × (after table table.start lines ≡ Some s) × (after table s more ≡ Some t)
+      go None e = absurd (none_some t (sym (after-append table.start lines more ∙ ap (option_and_then (λ u. after table u more)) e) ∙ there))
+      go (Some s) e = (s, e, sym (after-append table.start lines more ∙ ap (option_and_then (λ u. after table u more)) e) ∙ there)
+
+  begun : (lines : List L) → Begins table lines → (s : S) × (after table table.start lines ≡ Some s)
+  begun lines (more, f, (t, there, whole)) = let before = leads lines more t there in (before.0, before.1)
+
+  -- the first line after which no text goes on is the malformed line
+  wrong_is : CanEnd table → (number : L → ℕ) (end : ℕ) (before : List L) (line : L) (rest : List L) → IsFirstWrong table before line → answer table number end table.start (before ++ line ∷ rest) ≡ Malformed (number line)
+  wrong_is can_end number end before line rest first =
+      let here = begun before first.begins in
+      along number end [] before (line ∷ rest) table.start here.0 first.passes_none refl here.1 ∙ stuck here.0 here.1 (table.next here.0 line) refl
+    where
+      stuck : (s : S) → after table table.start before ≡ Some s → (o : Option S) → table.next s line ≡ o
+          → option_map_or (λ u. option_map_or (λ what. Limited what) (table.limit u) (answer table number end u rest)) (table.next s line) (Malformed (number line)) ≡ Malformed (number line)
+      stuck s here None e = rw e refl
+      stuck s here (Some u) e = absurd (first.wrong (begins_here can_end (before ++ line ∷ []) u (after_more before line s here ∙ e)))
+
+  -- where lines that begin a text are none, the malformed line is past the last
+  short_is : (number : L → ℕ) (end : ℕ) (lines : List L) → IsTooShort table lines → answer table number end table.start lines ≡ Malformed end
+  short_is number end lines short =
+      let here = begun lines short.begins in
+      answer_at_end number end lines here.0 short.passes_none here.1 ∙ stops here.0 here.1 (table.whole here.0) refl
+    where
+      stops : (s : S) → after table table.start lines ≡ Some s → (o : Option F) → table.whole s ≡ o → ending end (table.whole s) ≡ Malformed end
+      stops s here None e = rw e refl
+      stops s here (Some f) e = absurd (short.none f (s, here, e))
+
+  -- the first line that passes a limit is the line of the limit
+  past_is : (number : L → ℕ) (end : ℕ) (before : List L) (line : L) (rest : List L) (what : W) → IsFirstPast table before line what → answer table number end table.start (before ++ line ∷ rest) ≡ Limited what
+  past_is number end before line rest what first =
+      let (s, there, past) = first.past in
+      let here = leads before (line ∷ []) s there in
+      along number end [] before (line ∷ rest) table.start here.0 first.passes_none refl here.1 ∙ goes here.0 s here.2 past (table.next here.0 line) refl
+    where
+      goes : (t s : S) → after table t (line ∷ []) ≡ Some s → table.limit s ≡ Some what → (o : Option S) → table.next t line ≡ o
+          → option_map_or (λ u. option_map_or (λ what. Limited what) (table.limit u) (answer table number end u rest)) (table.next t line) (Malformed (number line)) ≡ Limited what
+      goes t s there past None e = absurd (none_some s (ap (option_and_then (λ u. Some u)) (sym e) ∙ there))
+      goes t s there past (Some u) e =
+          let same : u ≡ s = some_alike u s (ap (option_and_then (λ v. Some v)) (sym e) ∙ there) in
+          rw (e, ap table.limit same ∙ past) refl
+
+  -- there is one right answer
+  pub right_is : CanEnd table → (number : L → ℕ) (end : ℕ) (lines : List L) (a : Answer F W) → IsAnswer table number end lines a → answer table number end table.start lines ≡ a
+  right_is can_end number end lines (Read f) (text, low) = read_is number end lines f text low
+  right_is can_end number end lines (Malformed n) is =
+      ⊎_elim
+      (λ (before, line, rest, parts, first, n_is). ap (answer table number end table.start) parts ∙ wrong_is can_end number end before line rest first ∙ ap Malformed (sym n_is))
+      (λ (short, n_is). short_is number end lines short ∙ ap Malformed (sym n_is))
+      is
+  right_is can_end number end lines (Limited what) (before, line, rest, parts, first) = ap (answer table number end table.start) parts ∙ past_is number end before line rest what first
 
   -- where what is kept at each place lets it end, each place that lines lead to can end
   keeps : (Fine : S → Type 0) → ((s : S) (line : L) (t : S) → Fine s → table.next s line ≡ Some t → Fine t) → (lines : List L) (s t : S) → Fine s → after table s lines ≡ Some t → Fine t

@@ -2,7 +2,7 @@
 #![tactic(auto)]
 
 ghost use Rattle.std.specs.Prelude.{ℕ, Bool, List, Option, Some, IsTrue, ◌≡◌};
-ghost use Rattle.crn_grammar.specs.Table.{Table, CanEnd, IsText, PassesNone, IsAnswer, Read, after, answer};
+ghost use Rattle.crn_grammar.specs.Table.{Table, CanEnd, IsText, PassesNone, IsAnswer, Answer, Read, after, answer};
 ghost use Rattle.crn_grammar.specs.Part.{Either, Part, part_answer, joined_table, go_on};
 
 /// Where each place that lines lead to can still end, the answer line by line is the right one: the value of a text, the first
@@ -10,6 +10,12 @@ ghost use Rattle.crn_grammar.specs.Part.{Either, Part, part_answer, joined_table
 pub fn answer_is_right<S, L, F, W>()
     ensures { (table : Table S L F W) (number : L → ℕ) (end : ℕ) (lines : List L) → CanEnd table
         → IsAnswer table number end lines (answer table number end table.start lines) }
+{}
+
+/// There is one right answer to a text.
+pub fn right_answer_is_one<S, L, F, W>()
+    ensures { (table : Table S L F W) (number : L → ℕ) (end : ℕ) (lines : List L) (a : Answer F W) → CanEnd table
+        → IsAnswer table number end lines a → answer table number end table.start lines ≡ a }
 {}
 
 /// A text of the grammar that passes no limit is read, with its value.

@@ -62,7 +62,7 @@ longest-parting x xs cs b p =
 -- the byte is a piece alone
 pub parting_alone : (b : ℕ) (cs : List ℕ) → IsParting b → longest (b ∷ cs) ≡ 1
 parting_alone b [] p = longest_short (b ∷ []) (omega arith) p.letter p.digit ∙ rw p.blank refl
-parting_alone b (c ∷ cs) p = longest_short (b ∷ c ∷ cs) (omega arith) p.letter p.digit ∙ rw (p.first c, and_false, p.blank) refl
+parting_alone b (c ∷ cs) p = longest_short (b ∷ c ∷ cs) (omega arith) p.letter p.digit ∙ rw (p.first c, and_false (ltb 1 (length (b ∷ c ∷ cs))), p.blank) refl
 
 pub plain_parting : (b : ℕ) → IsParting b → plain_of (b ∷ []) ≡ Some []
 unfolding plain_of

@@ -1,5 +1,5 @@
 -- What is printed as tokens reads as those tokens.
-use Rattle.std.proofs.Common.{◌≡◌, ◌≢◌, ℕ, suc, ◌+◌, ◌<◌, ◌≤◌, ◌^◌, Bool, true, false, lt-ltb, List, [], ◌∷◌, ◌++◌, length, Some, is_some, sym, refl, ap, ap₂, ◌∙◌, inl, arith, ne_eqb, append-nil}
+use Rattle.std.proofs.Common.{◌≡◌, ◌≢◌, ℕ, suc, ◌+◌, ◌<◌, ◌≤◌, ◌^◌, Bool, true, false, lt-ltb, ltb, List, [], ◌∷◌, ◌++◌, length, Some, is_some, sym, refl, ap, ap₂, ◌∙◌, inl, arith, ne_eqb, append-nil}
 use Rattle.std.proofs.lemmas.Bool.Decides.{nat_tests}
 use Rattle.std.proofs.lemmas.Int.{ints}
 use Rattle.std.proofs.lemmas.Fmt.{decimal_is_IsNumeral}
@@ -105,7 +105,7 @@ after_minus (Shown (PlainSign sign) ∷ items) fine ends = arrow_sign sign (spel
 -- a symbol of one byte, where the next byte makes no longer one
 one_byte : (b : ℕ) (rest : List ℕ) → is_ascii_alphabetic b ≡ false → is_ascii_digit b ≡ false → is_some (sign_of (b ∷ [])) ≡ true → Stops (λ c. is_some (sign_of (b ∷ c ∷ []))) rest → longest (b ∷ rest) ≡ 1
 one_byte b [] letter digit sign stops = longest_short (b ∷ []) (omega arith) letter digit ∙ rw (sign, or_true) refl
-one_byte b (c ∷ cs) letter digit sign stops = longest_short (b ∷ c ∷ cs) (omega arith) letter digit ∙ rw (stops, and_false, sign, or_true) refl
+one_byte b (c ∷ cs) letter digit sign stops = longest_short (b ∷ c ∷ cs) (omega arith) letter digit ∙ rw (stops, and_false (ltb 1 (length (b ∷ c ∷ cs))), sign, or_true) refl
 
 -- a symbol of two bytes
 two_bytes : (b c : ℕ) (rest : List ℕ) → is_ascii_alphabetic b ≡ false → is_ascii_digit b ≡ false → is_some (sign_of (b ∷ c ∷ [])) ≡ true → longest (b ∷ c ∷ rest) ≡ 2

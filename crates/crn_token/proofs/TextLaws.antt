@@ -1,18 +1,19 @@
 -- The lines of a text, one after another.
 use Rattle.std.proofs.Common.{◌≡◌, ℕ, ◌+◌, ◌<◌, ◌≤◌, List, [], ◌∷◌, ◌++◌, length, drop, map, Option, Some, None, sym, refl, ap, ap₂, ◌∙◌, subst, arith, append_assoc, append-nil, drop-drop, length-drop, length-append, add-zero}
 use Rattle.std.proofs.lemmas.List.{map-append, take-append-drop}
-use Rattle.std.proofs.lemmas.List.Elements.{All-append, All-cons, All-nil}
+use Rattle.std.proofs.lemmas.List.Elements.{All-cons, All-nil}
 use Rattle.std.proofs.lemmas.Grind.{flat_map-append}
 use Rattle.std.specs.Prelude.{◌==◌, All, flat_map}
 use Rattle.std.specs.List.{before_first, position_or_len}
 use Rattle.crn_token.specs.declared.Token.{Token}
 use Rattle.crn_token.specs.declared.Line.{Line}
-use Rattle.crn_token.specs.Lines.{TokenLine, view, physical_lines, token_line, token_lines_from, tokens_from, without_comment}
-use Rattle.crn_token.specs.Plain.{PlainLine, plain_token, plain_line, kept_line, plain_lines_from, plain_from}
-use Rattle.crn_token.specs.Spans.{AreInOrder, AreOnLine, IsOnItsLine, line_tokens}
+use Rattle.crn_token.specs.declared.Lines.{Lines}
+use Rattle.crn_token.specs.Lines.{Text, AreLinesOf, TokenLine, view, physical_lines, token_line, token_lines_from, tokens_from, without_comment}
+use Rattle.crn_token.specs.Plain.{PlainLine, plain_token, plain_line, kept_line, plain_lines, plain_lines_from, plain_from}
+use Rattle.crn_token.specs.Spans.{AreInOrder, ArePlaced, IsPlaced, line_tokens}
 use Rattle.crn_token.proofs.Cut.{physical_step}
 use Rattle.crn_token.proofs.PlainLaws.{plains, plains-tokens}
-use Rattle.crn_token.proofs.SpanLaws.{tokens_in_order, tokens_on_line, in_order_later}
+use Rattle.crn_token.proofs.SpanLaws.{tokens_in_order, tokens_placed, in_order_later}
 
 nil_cons : {A : Type 0} (x : A) (xs : List A) → [] ≡ x ∷ xs → ⊥
 nil_cons x xs e = cc
@@ -47,7 +48,7 @@ line_here : (rest line : List ℕ) → line ≡ before_first (λ b. b == 10) res
 line_here rest line is = (
   drop (position_or_len (λ b. b == 35) line) line ++ drop (position_or_len (λ b. b == 10) rest) rest,
   sym (parts 10 rest) ∙ ap (λ l. l ++ drop (position_or_len (λ b. b == 10) rest) rest) (sym is ∙ sym (parts 35 line))
-  ∙ append_assoc (without_comment line) (drop (position_or_len (λ b. b == 35) line) line) (drop (position_or_len (λ b. b == 10) rest) rest),
+      ∙ append_assoc (without_comment line) (drop (position_or_len (λ b. b == 35) line) line) (drop (position_or_len (λ b. b == 10) rest) rest),
 )
 
 -- the line feed after a line
@@ -55,6 +56,9 @@ next_here : (whole rest line : List ℕ) (at : ℕ) → drop at whole ≡ rest �
 next_here whole rest line at here =
     let moved : at + length line + 1 ≡ at + (length line + 1) = omega arith in
     ap (λ n. drop n whole) moved ∙ sym (drop-drop (length line + 1) at whole) ∙ ap (drop (length line + 1)) here
+
+abbrev tokens_in : TokenLine → List Token
+tokens_in line = line.tokens
 
 abbrev shown_line : List ℕ → TokenLine → PlainLine
 shown_line whole line = record { number = line.number; bad = line.bad; tokens = map (plain_token whole) line.tokens }
@@ -87,17 +91,17 @@ in_order_append : (from mid to : ℕ) (xs ys : List Token) → AreInOrder from m
 in_order_append from mid to [] ys first second = in_order_later mid from to ys first second
 in_order_append from mid to (t ∷ ts) ys first second = (first.0, first.1, in_order_append _ mid to ts ys first.2 second)
 
-line_in_order : (number from to : ℕ) (o : Option (List Token)) → from ≤ to → ((ts : List Token) → o ≡ Some ts → AreInOrder from to ts) → AreInOrder from to (flat_map line_tokens (token_line number o))
+line_in_order : (number from to : ℕ) (o : Option (List Token)) → from ≤ to → ((ts : List Token) → o ≡ Some ts → AreInOrder from to ts) → AreInOrder from to (flat_map tokens_in (token_line number o))
 line_in_order number from to None short order = short
 line_in_order number from to (Some []) short order = short
 line_in_order number from to (Some (t ∷ ts)) short order = subst (AreInOrder from to) (sym (append-nil (t ∷ ts))) (order (t ∷ ts) refl)
 
 -- where no line follows, the order ends at the end of the text
-goes_on : (number next mid to : ℕ) (lines : List (List ℕ)) → mid ≤ to → mid ≤ next → (0 < length lines → AreInOrder next to (flat_map line_tokens (token_lines_from number next lines))) → AreInOrder mid to (flat_map line_tokens (token_lines_from number next lines))
+goes_on : (number next mid to : ℕ) (lines : List (List ℕ)) → mid ≤ to → mid ≤ next → (0 < length lines → AreInOrder next to (flat_map tokens_in (token_lines_from number next lines))) → AreInOrder mid to (flat_map tokens_in (token_lines_from number next lines))
 goes_on number next mid to [] ends later order = ends
 goes_on number next mid to (line ∷ lines) ends later order = in_order_later next mid to _ later (order (omega arith))
 
-lines_in_order : (lines : List (List ℕ)) (rest : List ℕ) (number at to : ℕ) → physical_lines rest ≡ lines → to ≡ at + length rest → AreInOrder at to (flat_map line_tokens (token_lines_from number at lines))
+lines_in_order : (lines : List (List ℕ)) (rest : List ℕ) (number at to : ℕ) → physical_lines rest ≡ lines → to ≡ at + length rest → AreInOrder at to (flat_map tokens_in (token_lines_from number at lines))
 lines_in_order [] rest number at to cut to_is = omega arith
 lines_in_order (line ∷ lines) rest number at to cut to_is =
     let front = line_here rest line (first_of rest line lines cut) in
@@ -108,11 +112,11 @@ lines_in_order (line ∷ lines) rest number at to cut to_is =
     let mid = at + length (without_comment line) in
     let more : 0 < length lines → to ≡ at + length line + 1 + length (drop (length line + 1) rest) =
     λ some. omega (arith, length-drop (length line + 1) rest, some_others rest line lines cut some) in
-    rw (flat_map-append line_tokens (token_line number o) (token_lines_from (number + 1) (at + length line + 1) lines)) (
-      in_order_append at mid to (flat_map line_tokens (token_line number o)) (flat_map line_tokens (token_lines_from (number + 1) (at + length line + 1) lines))
-      (line_in_order number at mid o (omega arith) (λ ts e. subst (λ (n : ℕ). AreInOrder n mid ts) (add-zero at) (tokens_in_order number plain 0 at mid ts (omega arith) refl e)))
-      (goes_on (number + 1) (at + length line + 1) mid to lines (omega arith) (omega arith)
-      (λ some. lines_in_order lines (drop (length line + 1) rest) (number + 1) (at + length line + 1) to (others_of rest line lines cut) (more some)))
+    rw (flat_map-append tokens_in (token_line number o) (token_lines_from (number + 1) (at + length line + 1) lines)) (
+    in_order_append at mid to (flat_map tokens_in (token_line number o)) (flat_map tokens_in (token_lines_from (number + 1) (at + length line + 1) lines))
+    (line_in_order number at mid o (omega arith) (λ ts e. subst (λ (n : ℕ). AreInOrder n mid ts) (add-zero at) (tokens_in_order number plain 0 at mid ts (omega arith) refl e)))
+    (goes_on (number + 1) (at + length line + 1) mid to lines (omega arith) (omega arith)
+    (λ some. lines_in_order lines (drop (length line + 1) rest) (number + 1) (at + length line + 1) to (others_of rest line lines cut) (more some)))
     )
   where
     some_of : (bs : List ℕ) (ls : List (List ℕ)) → physical_lines bs ≡ ls → 0 < length ls → 0 < length bs
@@ -122,19 +126,52 @@ lines_in_order (line ∷ lines) rest number at to cut to_is =
     some_others : (rest line : List ℕ) (lines : List (List ℕ)) → physical_lines rest ≡ line ∷ lines → 0 < length lines → 0 < length (drop (length line + 1) rest)
     some_others rest line lines cut some = some_of _ lines (others_of rest line lines cut) some
 
+tokens_view : (lines : List Line) → flat_map line_tokens lines ≡ flat_map tokens_in (map view lines)
+tokens_view [] = refl
+tokens_view (line ∷ lines) = ap (λ l. line_tokens line ++ l) (tokens_view lines)
+
 -- the tokens of a text stand in it one after another
-pub text_in_order : (bytes : List ℕ) → AreInOrder 0 (length bytes) (flat_map line_tokens (token_lines_from 1 0 (physical_lines bytes)))
-text_in_order bytes = lines_in_order (physical_lines bytes) bytes 1 0 (length bytes) refl (omega arith)
+pub text_in_order : (bytes : List ℕ) (lines : List Line) → map view lines ≡ token_lines_from 1 0 (physical_lines bytes) → AreInOrder 0 (length bytes) (flat_map line_tokens lines)
+text_in_order bytes lines is =
+    subst (AreInOrder 0 (length bytes)) (sym (tokens_view lines ∙ ap (flat_map tokens_in) is)) (lines_in_order (physical_lines bytes) bytes 1 0 (length bytes) refl (omega arith))
 
-line_on_its_line : (number : ℕ) (o : Option (List Token)) → ((ts : List Token) → o ≡ Some ts → AreOnLine number ts) → All IsOnItsLine (token_line number o)
-line_on_its_line number None on = All-cons IsOnItsLine _ [] tt (All-nil IsOnItsLine)
-line_on_its_line number (Some []) on = All-nil IsOnItsLine
-line_on_its_line number (Some (t ∷ ts)) on = All-cons IsOnItsLine _ [] (on (t ∷ ts) refl) (All-nil IsOnItsLine)
+-- each line's tokens are placed in it
+abbrev AllPlaced : ℕ → List TokenLine → Type 0
+AllPlaced size [] = Unit {0}
+AllPlaced size (line ∷ lines) = ArePlaced line.number size line.tokens × AllPlaced size lines
 
--- each token names the line that it stands in
-pub lines_on_their_lines : (lines : List (List ℕ)) (number at : ℕ) → All IsOnItsLine (token_lines_from number at lines)
-lines_on_their_lines [] number at = All-nil IsOnItsLine
-lines_on_their_lines (line ∷ lines) number at =
-    All-append IsOnItsLine _ _
-    (line_on_its_line number _ (λ ts e. tokens_on_line number (without_comment line) 0 at ts e))
-    (lines_on_their_lines lines (number + 1) (at + length line + 1))
+line_placed : (number size : ℕ) (o : Option (List Token)) (more : List TokenLine) → ((ts : List Token) → o ≡ Some ts → ArePlaced number size ts) → AllPlaced size more → AllPlaced size (token_line number o ++ more)
+line_placed number size None more on rest = (tt, rest)
+line_placed number size (Some []) more on rest = rest
+line_placed number size (Some (t ∷ ts)) more on rest = (on (t ∷ ts) refl, rest)
+
+lines_placed : (lines : List (List ℕ)) (rest : List ℕ) (number at size : ℕ) → physical_lines rest ≡ lines → (0 < length rest → at + length rest ≤ size) → AllPlaced size (token_lines_from number at lines)
+lines_placed [] rest number at size cut fits = tt
+lines_placed (line ∷ lines) rest number at size cut fits =
+    let front = line_here rest line (first_of rest line lines cut) in
+    let within : at + length rest ≤ size = fits (some_bytes rest line lines cut) in
+    let inside : at + length (without_comment line) ≤ size = omega (arith, within, ap length front.1, length-append (without_comment line) front.0) in
+    line_placed number size _ _ (λ ts e. tokens_placed number size (without_comment line) 0 at ts inside e)
+    (lines_placed lines (drop (length line + 1) rest) (number + 1) (at + length line + 1) size (others_of rest line lines cut)
+    (λ some. omega (arith, within, some, length-drop (length line + 1) rest)))
+
+all_placed : (size : ℕ) (lines : List Line) → AllPlaced size (map view lines) → All (IsPlaced size) lines
+all_placed size [] placed = All-nil (IsPlaced size)
+all_placed size (line ∷ lines) placed = All-cons (IsPlaced size) line lines placed.0 (all_placed size lines placed.1)
+
+-- each token names the line that it stands in, and lies in the text
+pub text_placed : (bytes : List ℕ) (lines : List Line) → map view lines ≡ token_lines_from 1 0 (physical_lines bytes) → All (IsPlaced (length bytes)) lines
+text_placed bytes lines is = all_placed (length bytes) lines (subst (AllPlaced (length bytes)) (sym is) (lines_placed (physical_lines bytes) bytes 1 0 (length bytes) refl (λ some. omega arith)))
+
+lines_of : (bytes : List ℕ) (lines : Lines) → AreLinesOf bytes lines → map view lines.lines.items ≡ token_lines_from 1 0 (physical_lines bytes)
+lines_of bytes lines are = ap (λ (t : Text). t.lines) are
+
+-- the same of the token lines of these bytes
+pub are_lines_say : (bytes : List ℕ) (lines : Lines) → AreLinesOf bytes lines → map (plain_line bytes) lines.lines.items ≡ plain_lines bytes
+are_lines_say bytes lines are = text_says bytes lines.lines.items (lines_of bytes lines are)
+
+pub are_lines_in_order : (bytes : List ℕ) (lines : Lines) → AreLinesOf bytes lines → AreInOrder 0 (length bytes) (flat_map line_tokens lines.lines.items)
+are_lines_in_order bytes lines are = text_in_order bytes lines.lines.items (lines_of bytes lines are)
+
+pub are_lines_placed : (bytes : List ℕ) (lines : Lines) → AreLinesOf bytes lines → All (IsPlaced (length bytes)) lines.lines.items
+are_lines_placed bytes lines are = text_placed bytes lines.lines.items (lines_of bytes lines are)

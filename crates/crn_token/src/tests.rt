@@ -14,32 +14,44 @@ fn cuts_a_text(rt: HostRuntime) -> Result<(), Fail> {
     let value = &lines.lines[0];
     assert_eq!(rt; value.number, 3);
     assert!(rt; !value.bad);
-    assert_eq!(rt; value.tokens.as_slice(), [
-        Token::Word(at(3, 18, 23)),
-        Token::Word(at(3, 24, 27)),
-        Token::Symbol(Sign::LeftParen, at(3, 27, 28)),
-        Token::Word(at(3, 28, 29)),
-        Token::Number(1, at(3, 29, 30)),
-        Token::Symbol(Sign::Comma, at(3, 30, 31)),
-        Token::Number(2, at(3, 31, 32)),
-        Token::Symbol(Sign::Slash, at(3, 32, 33)),
-        Token::Number(3, at(3, 33, 34)),
-        Token::Symbol(Sign::RightParen, at(3, 34, 35)),
-    ].as_slice());
-    assert_eq!(rt; lines.lines[1].tokens.as_slice(), [
-        Token::Symbol(Sign::Minus, at(4, 43, 44)),
-        Token::Symbol(Sign::AtLeast, at(4, 45, 47)),
-        Token::Symbol(Sign::Arrow, at(4, 47, 49)),
-        Token::Symbol(Sign::Colon, at(4, 49, 50)),
-        Token::Symbol(Sign::Plus, at(4, 50, 51)),
-        Token::Symbol(Sign::RightParen, at(4, 51, 52)),
-    ].as_slice());
+    assert_eq!(rt;
+        value.tokens.as_slice(),
+        [
+            Token::Word(at(3, 18, 23)),
+            Token::Word(at(3, 24, 27)),
+            Token::Symbol(Sign::LeftParen, at(3, 27, 28)),
+            Token::Word(at(3, 28, 29)),
+            Token::Number(1, at(3, 29, 30)),
+            Token::Symbol(Sign::Comma, at(3, 30, 31)),
+            Token::Number(2, at(3, 31, 32)),
+            Token::Symbol(Sign::Slash, at(3, 32, 33)),
+            Token::Number(3, at(3, 33, 34)),
+            Token::Symbol(Sign::RightParen, at(3, 34, 35)),
+        ]
+        .as_slice()
+    );
+    assert_eq!(rt;
+        lines.lines[1].tokens.as_slice(),
+        [
+            Token::Symbol(Sign::Minus, at(4, 43, 44)),
+            Token::Symbol(Sign::AtLeast, at(4, 45, 47)),
+            Token::Symbol(Sign::Arrow, at(4, 47, 49)),
+            Token::Symbol(Sign::Colon, at(4, 49, 50)),
+            Token::Symbol(Sign::Plus, at(4, 50, 51)),
+            Token::Symbol(Sign::RightParen, at(4, 51, 52)),
+        ]
+        .as_slice()
+    );
     assert_eq!(rt; lines.lines[2].number, 6);
-    assert_eq!(rt; lines.lines[2].tokens.as_slice(), [
-        Token::Number(2, at(6, 55, 56)),
-        Token::Word(at(6, 56, 57)),
-        Token::Number(1, at(6, 57, 58)),
-    ].as_slice());
+    assert_eq!(rt;
+        lines.lines[2].tokens.as_slice(),
+        [
+            Token::Number(2, at(6, 55, 56)),
+            Token::Word(at(6, 56, 57)),
+            Token::Number(1, at(6, 57, 58)),
+        ]
+        .as_slice()
+    );
     Ok(())
 }
 
@@ -59,7 +71,10 @@ fn reads_numbers(rt: HostRuntime) -> Result<(), Fail> {
         let line = &lines.lines[0];
         match wanted {
             Some(number) => {
-                assert_eq!(rt; line.tokens.as_slice(), [Token::Number(number, at(1, 0, text.len()))].as_slice());
+                assert_eq!(rt;
+                    line.tokens.as_slice(),
+                    [Token::Number(number, at(1, 0, text.len()))].as_slice()
+                );
             }
             None => assert!(rt; line.bad && line.tokens.is_empty()),
         }
