@@ -1,6 +1,5 @@
 -- The network of the minimum of two variables stably computes the lesser, by the value laws of its gates.
-use Rattle.std.proofs.Common.{◌≡◌, ◌≢◌, ℕ, suc, ◌+◌, ◌<◌, ◌≤◌, List, [], ◌∷◌, ◌++◌, length, get_or, refl, sym, ◌∙◌, ap, ap₂, arith}
-use Rattle.std.specs.Prelude.{pos}
+use Rattle.std.proofs.Common.{◌≡◌, ◌≢◌, ℕ, suc, ◌+◌, ◌<◌, ◌≤◌, List, [], ◌∷◌, ◌++◌, length, get_or, refl, ◌∙◌, ap₂, arith}
 use Rattle.crn_fraction.proofs.Products.{/ℚ-one}
 use Rattle.crn_fraction.proofs.Ring.{+ℚ-zero, one-*ℚ}
 use Rattle.crn_fraction.specs.Rational.{ℚ, 0ℚ, ◌+ℚ◌, ◌-ℚ◌, min_ℚ}
@@ -11,7 +10,7 @@ use Rattle.crn_gates.proofs.InRun.{table_gives, min_in_run, leaf_in_run}
 use Rattle.crn_gates.proofs.Settled.{start_empty, rail_in_run, copy_in_run, computes_made_value}
 use Rattle.crn_gates.proofs.Tables.{min_is, leaf_is}
 use Rattle.crn_gates.specs.Building.{IsFree, AllFree, Stamps, IsDone, IsFanned}
-use Rattle.crn_gates.specs.Gates.{Built, Up, times, leaf_table, min_table, renamed, slot_species}
+use Rattle.crn_gates.specs.Gates.{Up, times, leaf_table, min_table, renamed, slot_species}
 use Rattle.crn_gates.specs.Lesser.{lesser}
 use Rattle.crn_gates.specs.MinimumLayout.{once, copied, with_first, with_both, with_minimum}
 use Rattle.crn_net.proofs.Completion.{completion_runs, completion_exhausts}
@@ -19,28 +18,34 @@ use Rattle.crn_net.proofs.FeedForward.{not_taken, untaken}
 use Rattle.crn_net.proofs.MinimumRun.{minimum_is_network, minimum_feeds_forward}
 use Rattle.crn_net.proofs.Start.{amount-start, start_not_negative}
 use Rattle.crn_net.specs.Minimum.{minimum}
-use Rattle.crn_net.specs.Network.{Network, Reaction, amount, given_to, input_species, start, completion, completed, encoded, AreAmounts, AreNotNegative, IsNotNegative, Run, StablyComputes}
+use Rattle.crn_net.specs.Network.{Reaction, amount, given_to, input_species, start, completion, completed, encoded, AreAmounts, AreNotNegative, IsNotNegative, Run, StablyComputes}
 use Rattle.crn_net.specs.declared.Flow.{Flow}
 use Rattle.crn_net.specs.Reactions.{EachGiven}
 use Rattle.crn_net.specs.Totals.{made_in, AreUntaken, IsExhausted}
 
 -- ---- the network is its gates, one after another
 
+-- its species are those of the gates
 pub same_species : with_minimum.species ≡ minimum.species
 same_species = refl
 
+-- and so are its reactions
 pub same_reactions : with_minimum.reactions ≡ minimum.reactions
 same_reactions = refl
 
+-- each copy of an input is free
 free_copy : (i : ℕ) → i < 4 → IsFree copied (suc (4 + i))
 free_copy i l = copies_free 4 (1 ∷ 2 ∷ 3 ∷ 4 ∷ []) i l
 
+-- the copies of the first variable
 first_free : AllFree copied (5 ∷ 6 ∷ [])
 first_free = (free_copy 0 (omega arith), (omega arith, tt), (free_copy 1 (omega arith), tt, tt))
 
+-- the leaf of the first variable
 first_stamps : Stamps copied (5 ∷ 6 ∷ []) 2 2 3 (leaf_table once)
 first_stamps = leaf_stamps copied (5 ∷ 6 ∷ []) once ((omega arith, omega arith), tt) refl (fanned_sound 4 (1 ∷ 2 ∷ 3 ∷ 4 ∷ [])) first_free
 
+-- the copies of the second variable, after that leaf
 second_free : AllFree with_first (7 ∷ 8 ∷ [])
 second_free = (
   first_stamps.others 7 (free_copy 2 (omega arith)) (omega arith, (omega arith, tt)),
@@ -48,9 +53,11 @@ second_free = (
   (first_stamps.others 8 (free_copy 3 (omega arith)) (omega arith, (omega arith, tt)), tt, tt),
 )
 
+-- the leaf of the second variable
 second_stamps : Stamps with_first (7 ∷ 8 ∷ []) 2 2 3 (leaf_table once)
 second_stamps = leaf_stamps with_first (7 ∷ 8 ∷ []) once ((omega arith, omega arith), tt) refl first_stamps.sound second_free
 
+-- the pairs of both variables
 both_free : AllFree with_both (9 ∷ 10 ∷ 11 ∷ 12 ∷ [])
 both_free = (
   second_stamps.others 9 first_stamps.plus (omega arith, (omega arith, tt)),
@@ -62,9 +69,11 @@ both_free = (
   ),
 )
 
+-- the gate of the minimum
 minimum_stamps : Stamps with_both (9 ∷ 10 ∷ 11 ∷ 12 ∷ []) 4 6 7 min_table
 minimum_stamps = min_stamps with_both 9 10 11 12 second_stamps.sound both_free
 
+-- no reaction takes the output
 output_untaken : AreUntaken minimum minimum.output
 output_untaken = (
   untaken minimum 15 (not_taken minimum.reactions 15 minimum_stamps.plus.untaken),
@@ -75,9 +84,11 @@ output_untaken = (
 abbrev after_second : List Reaction
 after_second = renamed (slot_species (9 ∷ 10 ∷ 11 ∷ 12 ∷ []) 12) min_table ++ []
 
+-- after the leaf of the first variable
 abbrev after_first : List Reaction
 after_first = renamed (slot_species (7 ∷ 8 ∷ []) 10) (leaf_table once) ++ after_second
 
+-- after the fan-out
 abbrev after_copies : List Reaction
 after_copies = renamed (slot_species (5 ∷ 6 ∷ []) 8) (leaf_table once) ++ after_first
 
@@ -85,6 +96,7 @@ after_copies = renamed (slot_species (5 ∷ 6 ∷ []) 8) (leaf_table once) ++ af
 min_gives : EachGiven (λ i. 4 ≤ i) min_table
 min_gives = table_gives 4 4 6 7 min_table min_is
 
+-- so does that of a leaf
 once_gives : EachGiven (λ i. 2 ≤ i) (leaf_table once)
 once_gives = table_gives 2 2 2 3 (leaf_table once) (leaf_is once 2 refl)
 
@@ -96,21 +108,25 @@ once_value x = +ℚ-zero _ ∙ one-*ℚ _ ∙ /ℚ-one x
 
 module _ (a : List ℚ) (us : List (List Flow)) (c : List ℚ) (nn : IsNotNegative a) (empty : (s : ℕ) → 4 < s → amount a s ≡ 0ℚ)
     (run : Run minimum a us c) (lack : IsExhausted minimum c) where
+  -- the gate of the minimum has done its work
   minimum_done : IsDone minimum with_both (9 ∷ 10 ∷ 11 ∷ 12 ∷ []) 4 min_table [] a us c
   minimum_done =
       last_done minimum minimum_is_network minimum_feeds_forward with_both (9 ∷ 10 ∷ 11 ∷ 12 ∷ []) 4 min_table refl (omega arith) second_stamps.sound both_free
       a us c nn (λ s l. empty s (omega arith)) run lack
 
+  -- and so has the leaf of the second variable
   second_done : IsDone minimum with_first (7 ∷ 8 ∷ []) 2 (leaf_table once) after_second a us c
   second_done =
       done_before minimum (9 ∷ 10 ∷ 11 ∷ 12 ∷ []) 4 min_table [] min_gives a us c with_first (7 ∷ 8 ∷ []) 2 (leaf_table once) first_stamps.sound second_free
       (λ s l. empty s (omega arith)) minimum_done
 
+  -- the leaf of the first
   first_done : IsDone minimum copied (5 ∷ 6 ∷ []) 2 (leaf_table once) after_first a us c
   first_done =
       done_before minimum (7 ∷ 8 ∷ []) 2 (leaf_table once) after_second once_gives a us c copied (5 ∷ 6 ∷ []) 2 (leaf_table once) (fanned_sound 4 (1 ∷ 2 ∷ 3 ∷ 4 ∷ [])) first_free
       (λ s l. empty s (omega arith)) second_done
 
+  -- and the fan-out
   copies_done : IsFanned minimum 4 (1 ∷ 2 ∷ 3 ∷ 4 ∷ []) after_copies a us c
   copies_done = fanned_before minimum (5 ∷ 6 ∷ []) 2 (leaf_table once) after_first once_gives a us c 4 (1 ∷ 2 ∷ 3 ∷ 4 ∷ []) empty first_done
 
@@ -121,30 +137,36 @@ module _ (a : List ℚ) (us : List (List Flow)) (c : List ℚ) (nn : IsNotNegati
       copy_in_run minimum 4 (1 ∷ 2 ∷ 3 ∷ 4 ∷ []) after_copies a us c copies_done i l low high
       ∙ rail_in_run minimum 4 (1 ∷ 2 ∷ 3 ∷ 4 ∷ []) after_copies a us c copies_done (get_or (1 ∷ 2 ∷ 3 ∷ 4 ∷ []) i 0) low high
 
+  -- the value made of the first pair is that of the first input
   first_is : made_in minimum us c 9 -ℚ made_in minimum us c 10 ≡ amount a 1 -ℚ amount a 2
   first_is =
-      leaf_in_run minimum copied (5 ∷ 6 ∷ []) once after_first a us c refl first_done
+      leaf_in_run once minimum copied (5 ∷ 6 ∷ []) after_first a us c refl first_done
       ∙ once_value _
       ∙ ap₂ (λ u v. u -ℚ v) (copy_is 0 (omega arith) (omega arith) (omega arith)) (copy_is 1 (omega arith) (omega arith) (omega arith))
 
+  -- and that of the second pair of the second input
   second_is : made_in minimum us c 11 -ℚ made_in minimum us c 12 ≡ amount a 3 -ℚ amount a 4
   second_is =
-      leaf_in_run minimum with_first (7 ∷ 8 ∷ []) once after_second a us c refl second_done
+      leaf_in_run once minimum with_first (7 ∷ 8 ∷ []) after_second a us c refl second_done
       ∙ once_value _
       ∙ ap₂ (λ u v. u -ℚ v) (copy_is 2 (omega arith) (omega arith) (omega arith)) (copy_is 3 (omega arith) (omega arith) (omega arith))
 
+  -- the value made of the output is the lesser of the inputs
   pub made_minimum : made_in minimum us c 15 -ℚ made_in minimum us c 16 ≡ min_ℚ (amount a 1 -ℚ amount a 2) (amount a 3 -ℚ amount a 4)
   made_minimum = min_in_run minimum with_both 9 10 11 12 [] a us c minimum_done ∙ ap₂ min_ℚ first_is second_is
 
 -- ---- from every start
 
 module _ (x x' y y' : ℚ) (nn : AreNotNegative (x ∷ x' ∷ y ∷ y' ∷ [])) where
+  -- a start has what it is given on the inputs
   input_is : (s : ℕ) → 1 ≤ s → s ≤ 4 → amount (start minimum (x ∷ x' ∷ y ∷ y' ∷ [])) s ≡ given_to (input_species minimum.inputs) (x ∷ x' ∷ y ∷ y' ∷ []) s
   input_is s low high = amount-start minimum (x ∷ x' ∷ y ∷ y' ∷ []) s low (omega arith)
 
+  -- and nothing else
   empty : (s : ℕ) → 4 < s → amount (start minimum (x ∷ x' ∷ y ∷ y' ∷ [])) s ≡ 0ℚ
   empty s l = start_empty minimum (x ∷ x' ∷ y ∷ y' ∷ []) s (omega arith, (omega arith, (omega arith, (omega arith, tt)))) refl (omega arith)
 
+  -- of four amounts the network stably computes the lesser difference
   of_four : StablyComputes minimum (x ∷ x' ∷ y ∷ y' ∷ []) (min_ℚ (x -ℚ x') (y -ℚ y'))
   of_four =
       let a : List ℚ = start minimum (x ∷ x' ∷ y ∷ y' ∷ []) in
@@ -157,6 +179,7 @@ module _ (x x' y y' : ℚ) (nn : AreNotNegative (x ∷ x' ∷ y ∷ y' ∷ [])) 
       (completion_exhausts minimum minimum_is_network.reactions minimum_feeds_forward a start_nn)
       ∙ ap₂ min_ℚ difference_1 difference_2)
 
+-- a list of another length than 4
 short : (n : ℕ) → n ≡ 4 → n ≢ 4 → ⊥
 short n e h = h e
 

@@ -10,7 +10,7 @@ use Rattle.crn_net.proofs.Settling.{computes}
 use Rattle.crn_net.proofs.Start.{amount-start, amount-start-past, pick_no, start_not_negative}
 use Rattle.crn_net.proofs.Sums.{sum_none}
 use Rattle.crn_net.proofs.Unique.{none_of}
-use Rattle.crn_net.specs.Network.{Network, Reaction, amount, given_to, input_species, or_context, start, completion, completed, value_at, output, IsApart, IsNetwork, IsFeedForward, AreNotNegative, StablyComputes}
+use Rattle.crn_net.specs.Network.{Network, Reaction, amount, given_to, input_species, or_context, start, completion, completed, value_at, IsApart, IsNetwork, IsFeedForward, AreNotNegative, StablyComputes}
 use Rattle.crn_net.specs.declared.Flow.{Flow}
 use Rattle.crn_net.specs.declared.Ends.{Ends}
 use Rattle.crn_net.specs.declared.Ends.TheVariants.{Pair, One}
@@ -18,6 +18,7 @@ use Rattle.crn_net.specs.Totals.{made_in, total, IsUntaken, AreUntaken}
 
 -- ---- a start
 
+-- what a list gives to a species that it does not name
 given_to-other : (is : List ℕ) (xs : List ℚ) (s : ℕ) → IsApart s is → given_to is xs s ≡ 0ℚ
 given_to-other [] xs s h = refl
 given_to-other (i ∷ is) [] s h = refl
