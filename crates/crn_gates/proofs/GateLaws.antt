@@ -9,7 +9,7 @@ use Rattle.crn_fraction.proofs.Products.{/ℚ-one, sub_ℚ-/ℚ}
 use Rattle.crn_fraction.proofs.Ratios.{by_common_4}
 use Rattle.crn_fraction.proofs.Ring.{+ℚ-zero, one-*ℚ, zero-*ℚ, +ℚ--ℚ-+ℚ, *ℚ--ℚ, sub_ℚ_flip, zero-+ℚ, ring_ℚ, q-writes}
 use Rattle.crn_fraction.specs.Rational.{ℚ, 0ℚ, ◌+ℚ◌, ◌-ℚ◌, ◌*ℚ◌, whole, ◌/ℚ◌, min_ℚ, max_ℚ}
-use Rattle.crn_gates.specs.Gates.{slot_species, renamed_parts, renamed, part, reaction, min_table, add_table, sub_table, max_table, Factor, Zero, Up, Down, transfer, AreAtMost, times}
+use Rattle.crn_gates.specs.Gates.{slot_species, renamed_parts, renamed, part, reaction, min_table, add_table, sub_table, max_table, Factor, Zero, Up, Down, transfer, transfer_single, AreAtMost, times}
 use Rattle.crn_net.specs.Network.{Part, Reaction, count_of, greatest, IsApart, AreDifferent}
 use Rattle.crn_net.specs.Reactions.{taken_all, given_all, Each, EachTaken, IsLeftAlone, FeedsForward}
 use Rattle.crn_net.specs.Totals.{made_by}
@@ -201,3 +201,23 @@ transfer_makes (Down p q) a a' y y' m h k k' =
     ap₂ (λ u v. u -ℚ v) (moved_there m' p q a' y ∙ ap₂ (λ u v. u +ℚ whole (pos p) *ℚ (v /ℚ whole (pos q))) (moved_else m p q a y' y (λ e. h (sym e))) (moved_else m p q a y' a' k'))
     (moved_else m' p q a' y y' h ∙ moved_there m p q a y')
     ∙ +ℚ--ℚ-+ℚ _ _ _ _ ∙ ap (λ x. (m y -ℚ m y') +ℚ x) (sub_ℚ_flip _ _ ∙ ap (λ x. 0ℚ -ℚ x) (times_sub p q (m a) (m a')))
+
+-- ---- one rail into a pair
+
+more_plus : (a b t : ℚ) → (a +ℚ t) -ℚ b ≡ (a -ℚ b) +ℚ t
+more_plus a b t = ring_ℚ (a ∷ b ∷ t ∷ []) (search q-writes depth 20) (search q-writes depth 20) refl
+
+more_minus : (a b t : ℚ) → a -ℚ (b +ℚ t) ≡ (a -ℚ b) +ℚ (0ℚ -ℚ t)
+more_minus a b t = ring_ℚ (a ∷ b ∷ t ∷ []) (search q-writes depth 20) (search q-writes depth 20) refl
+
+-- what is neither y nor y' stays
+pub single_else : (f : Factor) (a y y' : ℕ) (m : ℕ → ℚ) (s : ℕ) → y ≢ s → y' ≢ s → made_by (transfer_single f a y y') m s ≡ m s
+single_else Zero a y y' m s h h' = refl
+single_else (Up p q) a y y' m s h h' = moved_else m p q a y s h
+single_else (Down p q) a y y' m s h h' = moved_else m p q a y' s h'
+
+-- the value of y, y' grows by the factor of what is there of a
+pub single_makes : (f : Factor) (a y y' : ℕ) (m : ℕ → ℚ) → y ≢ y' → made_by (transfer_single f a y y') m y -ℚ made_by (transfer_single f a y y') m y' ≡ (m y -ℚ m y') +ℚ times f (m a)
+single_makes Zero a y y' m h = sym (+ℚ-zero _)
+single_makes (Up p q) a y y' m h = ap₂ (λ u v. u -ℚ v) (moved_there m p q a y) (moved_else m p q a y y' h) ∙ more_plus _ _ _
+single_makes (Down p q) a y y' m h = ap₂ (λ u v. u -ℚ v) (moved_else m p q a y' y (λ e. h (sym e))) (moved_there m p q a y') ∙ more_minus _ _ _

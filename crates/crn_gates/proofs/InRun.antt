@@ -12,7 +12,7 @@ use Rattle.crn_gates.proofs.Tables.{given_above, slot_high, EachGiven-weaken, Ta
 use Rattle.crn_gates.proofs.Transfers.{leaf_makes, terms_same}
 use Rattle.crn_gates.specs.Building.{IsDone}
 use Rattle.crn_gates.specs.Values.{made_value, MakesOfTwo, MakesOfOne, MakesTerms, MakesOnes, MakesOfRails}
-use Rattle.crn_gates.specs.Gates.{Built, slot_species, IsTable, Factor, times, scale_table, leaf_table, width_of, add_table, sub_table, min_table, max_table}
+use Rattle.crn_gates.specs.Gates.{Built, slot_species, IsTable, Factor, Operand, times, scale_table, leaf_table, width_of, add_table, sub_table, min_table, max_table}
 use Rattle.crn_net.proofs.InRun.{made_in_run}
 use Rattle.crn_net.specs.Network.{Network, Reaction, amount}
 use Rattle.crn_net.specs.declared.Flow.{Flow}
@@ -88,15 +88,15 @@ scale_in_run f net b x x' later a us c done =
     ∙ zero-+ℚ _
 
 -- a leaf
-pub leaf_in_run : (fs : List Factor) → MakesTerms fs
-leaf_in_run fs net b xs later a us c e done =
-    let w : ℕ = width_of fs in
-    let it : IsTable (length xs) 2 (width_of fs) (suc (width_of fs)) (leaf_table fs) = leaf_is fs (length xs) e in
-    ap₂ (λ u v. u -ℚ v) (new_slot net b xs 2 (leaf_table fs) later (table_gives (length xs) 2 w (suc w) (leaf_table fs) it) a us c done w it.plus.0 it.plus.1) (new_slot net b xs 2 (leaf_table fs) later (table_gives (length xs) 2 w (suc w) (leaf_table fs) it) a us c done (suc w) it.minus.0 it.minus.1)
-    ∙ leaf_makes fs 0 w (λ j. made_by b.reactions (amount a) (slot_species xs b.species j)) (omega arith)
+pub leaf_in_run : (ts : List Operand) → MakesTerms ts
+leaf_in_run ts net b xs later a us c e done =
+    let w : ℕ = width_of ts in
+    let it : IsTable (length xs) 2 (width_of ts) (suc (width_of ts)) (leaf_table ts) = leaf_is ts (length xs) e in
+    ap₂ (λ u v. u -ℚ v) (new_slot net b xs 2 (leaf_table ts) later (table_gives (length xs) 2 w (suc w) (leaf_table ts) it) a us c done w it.plus.0 it.plus.1) (new_slot net b xs 2 (leaf_table ts) later (table_gives (length xs) 2 w (suc w) (leaf_table ts) it) a us c done (suc w) it.minus.0 it.minus.1)
+    ∙ leaf_makes ts 0 w (λ j. made_by b.reactions (amount a) (slot_species xs b.species j)) (omega arith)
     ∙ ap₂ (λ u v. u +ℚ v)
-    (ap₂ (λ u v. u -ℚ v) (nothing net b xs 2 (leaf_table fs) later (table_gives (length xs) 2 w (suc w) (leaf_table fs) it) a us c done w it.plus.0) (nothing net b xs 2 (leaf_table fs) later (table_gives (length xs) 2 w (suc w) (leaf_table fs) it) a us c done (suc w) it.minus.0) ∙ sub_ℚ-self _)
-    (terms_same fs 0 (λ j. made_by b.reactions (amount a) (slot_species xs b.species j)) (λ j. made_in net us c (slot_species xs b.species j)) (λ j l. operand net b xs 2 (leaf_table fs) later (table_gives (length xs) 2 w (suc w) (leaf_table fs) it) a us c done j (omega (arith, e))))
+    (ap₂ (λ u v. u -ℚ v) (nothing net b xs 2 (leaf_table ts) later (table_gives (length xs) 2 w (suc w) (leaf_table ts) it) a us c done w it.plus.0) (nothing net b xs 2 (leaf_table ts) later (table_gives (length xs) 2 w (suc w) (leaf_table ts) it) a us c done (suc w) it.minus.0) ∙ sub_ℚ-self _)
+    (terms_same ts 0 (λ j. made_by b.reactions (amount a) (slot_species xs b.species j)) (λ j. made_in net us c (slot_species xs b.species j)) (λ j l. operand net b xs 2 (leaf_table ts) later (table_gives (length xs) 2 w (suc w) (leaf_table ts) it) a us c done j (omega (arith, e))))
     ∙ zero-+ℚ _
 
 -- ---- single rails

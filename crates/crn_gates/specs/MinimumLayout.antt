@@ -1,11 +1,11 @@
 -- The network of the minimum of two variables as gates, one after another.
 use Rattle.std.specs.Prelude.{List, [], ◌∷◌}
-use Rattle.crn_gates.specs.Gates.{Built, Factor, Up, stamped, leaf_table, min_table}
+use Rattle.crn_gates.specs.Gates.{Built, Operand, OfPair, Up, stamped, leaf_table, min_table}
 use Rattle.crn_gates.specs.FanOut.{fanned}
 
 -- one variable with the coefficient 1
-abbrev pub once : List Factor
-once = Up 1 1 ∷ []
+abbrev pub once : List Operand
+once = OfPair (Up 1 1) ∷ []
 
 -- species 1 to 4 are the inputs, and 5 to 8 their copies
 abbrev pub copied : Built

@@ -4,7 +4,7 @@ use Rattle.crn_fraction.specs.Rational.{ℚ, ◌-ℚ◌}
 use Rattle.crn_net.specs.Network.{Network, Reaction}
 use Rattle.crn_net.specs.declared.Flow.{Flow}
 use Rattle.crn_net.specs.Totals.{made_in}
-use Rattle.crn_gates.specs.Gates.{Built, Factor, slot_species, width_of, leaf_table, terms_at, leaf_one_table, ones_at}
+use Rattle.crn_gates.specs.Gates.{Built, Factor, Operand, slot_species, width_of, leaf_table, terms_at, leaf_one_table, ones_at}
 use Rattle.crn_gates.specs.Building.{IsSound, AllFree, Stamps, IsDone}
 
 -- the value that a run to c has made of the pair p, q
@@ -36,12 +36,12 @@ MakesOfOne new t p q f =
     (net : Network) (b : Built) (x x' : ℕ) (later : List Reaction) (a : List ℚ) (us : List (List Flow)) (c : List ℚ) → IsDone net b (x ∷ x' ∷ []) new t later a us c →
     made_value net us c (slot_species (x ∷ x' ∷ []) b.species p) (slot_species (x ∷ x' ∷ []) b.species q) ≡ f (made_value net us c x x')
 
--- the value made by a leaf is the sum of the values made of its pairs, each times its factor
-abbrev pub MakesTerms : List Factor → Type 0
-MakesTerms fs =
-    (net : Network) (b : Built) (xs : List ℕ) (later : List Reaction) (a : List ℚ) (us : List (List Flow)) (c : List ℚ) → length xs ≡ width_of fs → IsDone net b xs 2 (leaf_table fs) later a us c →
-    made_value net us c (slot_species xs b.species (width_of fs)) (slot_species xs b.species (suc (width_of fs)))
-    ≡ terms_at 0 fs (λ j. made_in net us c (slot_species xs b.species j))
+-- the value made by a leaf is the sum of the values made of its operands, each times its factor
+abbrev pub MakesTerms : List Operand → Type 0
+MakesTerms ts =
+    (net : Network) (b : Built) (xs : List ℕ) (later : List Reaction) (a : List ℚ) (us : List (List Flow)) (c : List ℚ) → length xs ≡ width_of ts → IsDone net b xs 2 (leaf_table ts) later a us c →
+    made_value net us c (slot_species xs b.species (width_of ts)) (slot_species xs b.species (suc (width_of ts)))
+    ≡ terms_at 0 ts (λ j. made_in net us c (slot_species xs b.species j))
 
 -- what a leaf of single rails makes is the sum of what was made of its rails, each times its factor
 abbrev pub MakesOnes : List Factor → Type 0

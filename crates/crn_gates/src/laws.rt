@@ -9,7 +9,7 @@ ghost use Rattle.crn_net.specs.Network.{Network, Reaction, IsNetwork, IsFeedForw
 ghost use Rattle.crn_net.specs.declared.Flow.{Flow};
 ghost use Rattle.crn_net.specs.Totals.{made_by, made_in, AreUntaken};
 ghost use Rattle.crn_net.specs.Minimum.{minimum};
-ghost use Rattle.crn_gates.specs.Gates.{Built, Factor, IsFactor, AreFactors, factor_of, AreUpward, times, width_of, add_table, sub_table, min_table, max_table, scale_table, leaf_table, leaf_one_table, min_one_table};
+ghost use Rattle.crn_gates.specs.Gates.{Built, Factor, IsFactor, Operand, AreOperands, factor_of, AreUpward, times, width_of, add_table, sub_table, min_table, max_table, scale_table, leaf_table, leaf_one_table, min_one_table};
 ghost use Rattle.crn_gates.specs.Terms.{form_value, terms_of, value_of_terms};
 ghost use Rattle.crn_gates.specs.FanOut.{fanned};
 ghost use Rattle.crn_gates.specs.Building.{IsSound, IsFree, AllFree, Stamps, StampsOne, IsFanned};
@@ -45,7 +45,7 @@ pub fn stamped_pairs()
 /// So do a scaled pair and a leaf.
 pub fn stamped_scales()
     ensures scale { (f : Factor) → IsFactor f → StampsOnOne 2 (scale_table f) 2 3 }
-    ensures leaf { (b : Built) (xs : List ℕ) (fs : List Factor) → AreFactors fs → length xs ≡ width_of fs → IsSound b → AllFree b xs → Stamps b xs 2 (width_of fs) (suc (width_of fs)) (leaf_table fs) }
+    ensures leaf { (b : Built) (xs : List ℕ) (ts : List Operand) → AreOperands ts → length xs ≡ width_of ts → IsSound b → AllFree b xs → Stamps b xs 2 (width_of ts) (suc (width_of ts)) (leaf_table ts) }
 {}
 
 /// A leaf and a minimum of single rails keep a network sound and make a free rail.
@@ -69,10 +69,10 @@ pub fn values_of_pairs()
     ensures max { MakesOfTwo 4 max_table 6 7 max_ℚ }
 {}
 
-/// The value laws of a scaled pair and of a leaf.
+/// The value laws of a scaled pair and of a leaf. An operand of a leaf is a pair, as a copy of a variable, or a single rail, as a copy of the context.
 pub fn values_of_scales()
     ensures scale { (f : Factor) → MakesOfOne 2 (scale_table f) 2 3 (times f) }
-    ensures leaf { (fs : List Factor) → MakesTerms fs }
+    ensures leaf { (ts : List Operand) → MakesTerms ts }
 {}
 
 /// The value laws of a leaf and a minimum of single rails.
