@@ -204,9 +204,11 @@ transfer_makes (Down p q) a a' y y' m h k k' =
 
 -- ---- one rail into a pair
 
+-- more on the plus side
 more_plus : (a b t : ℚ) → (a +ℚ t) -ℚ b ≡ (a -ℚ b) +ℚ t
 more_plus a b t = ring_ℚ (a ∷ b ∷ t ∷ []) (search q-writes depth 20) (search q-writes depth 20) refl
 
+-- more on the minus side
 more_minus : (a b t : ℚ) → a -ℚ (b +ℚ t) ≡ (a -ℚ b) +ℚ (0ℚ -ℚ t)
 more_minus a b t = ring_ℚ (a ∷ b ∷ t ∷ []) (search q-writes depth 20) (search q-writes depth 20) refl
 

@@ -29,7 +29,7 @@ module _ (net : Network) (b : Built) (xs : List ℕ) (new : ℕ) (t later : List
   new_slot i l h =
       let fresh : b.species < slot_species xs b.species i = slot_new xs b.species i l in
       let inside : slot_species xs b.species i ≤ b.species + new = slot_high xs b.species new i (free_low b xs done.free) h in
-      made_in_run net done.network done.feed_forward _ later done.reactions a done.not_negative us c done.run done.lack _ (omega arith) (omega (arith, done.species)) (done.later_gives _ inside)
+      made_in_run net done.goes_on.network done.goes_on.feed_forward _ later done.goes_on.reactions a done.goes_on.not_negative us c done.goes_on.run done.goes_on.lack _ (omega arith) (omega (arith, done.goes_on.species)) (done.goes_on.later_gives _ inside)
       ∙ stamped_makes b xs new t (free_different b xs done.free) (free_low b xs done.free) (amount a) i
 
   -- new slots held nothing
@@ -42,7 +42,7 @@ module _ (net : Network) (b : Built) (xs : List ℕ) (new : ℕ) (t later : List
   operand : (i : ℕ) → i < length xs → made_by b.reactions (amount a) (slot_species xs b.species i) ≡ made_in net us c (slot_species xs b.species i)
   operand i l =
       let r : (1 ≤ slot_species xs b.species i) × (slot_species xs b.species i ≤ b.species) = operand_range b xs i done.free l in
-      sym (made_in_run net done.network done.feed_forward _ later done.reactions a done.not_negative us c done.run done.lack _ r.0 (omega (arith, r.1, done.species)) (done.later_gives _ (omega (arith, r.1)))
+      sym (made_in_run net done.goes_on.network done.goes_on.feed_forward _ later done.goes_on.reactions a done.goes_on.not_negative us c done.goes_on.run done.goes_on.lack _ r.0 (omega (arith, r.1, done.goes_on.species)) (done.goes_on.later_gives _ (omega (arith, r.1)))
       ∙ stamped_same b xs new t gives (amount a) _ r.1)
 
 -- ---- two operands

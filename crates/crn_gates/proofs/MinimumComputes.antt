@@ -4,12 +4,12 @@ use Rattle.crn_fraction.proofs.Products.{/ℚ-one}
 use Rattle.crn_fraction.proofs.Ring.{+ℚ-zero, one-*ℚ}
 use Rattle.crn_fraction.specs.Rational.{ℚ, 0ℚ, ◌+ℚ◌, ◌-ℚ◌, min_ℚ}
 use Rattle.crn_gates.proofs.BuildingLaws.{leaf_stamps, min_stamps}
-use Rattle.crn_gates.proofs.Chain.{last_done, done_before, fanned_before}
+use Rattle.crn_gates.proofs.Chain.{goes_to_end, goes_before}
 use Rattle.crn_gates.proofs.FanLaws.{fanned_sound, copies_free}
 use Rattle.crn_gates.proofs.InRun.{table_gives, min_in_run, leaf_in_run}
 use Rattle.crn_gates.proofs.Settled.{start_empty, rail_in_run, copy_in_run, computes_made_value}
 use Rattle.crn_gates.proofs.Tables.{min_is, leaf_is}
-use Rattle.crn_gates.specs.Building.{IsFree, AllFree, Stamps, IsDone, IsFanned}
+use Rattle.crn_gates.specs.Building.{IsFree, AllFree, Stamps, IsDone, IsFanned, IsEmptyAfter}
 use Rattle.crn_gates.specs.Gates.{Up, times, leaf_table, min_table, renamed, slot_species}
 use Rattle.crn_gates.specs.Lesser.{lesser}
 use Rattle.crn_gates.specs.MinimumLayout.{once, copied, with_first, with_both, with_minimum}
@@ -106,29 +106,37 @@ once_value x = +ℚ-zero _ ∙ one-*ℚ _ ∙ /ℚ-one x
 
 -- ---- a run to a state at which each reaction lacks a reactant
 
-module _ (a : List ℚ) (us : List (List Flow)) (c : List ℚ) (nn : IsNotNegative a) (empty : (s : ℕ) → 4 < s → amount a s ≡ 0ℚ)
-    (run : Run minimum a us c) (lack : IsExhausted minimum c) where
+module _ (a : List ℚ) (us : List (List Flow)) (c : List ℚ) (nn : IsNotNegative a) (empty : IsEmptyAfter 4 a) (run : Run minimum a us c) (lack : IsExhausted minimum c) where
   -- the gate of the minimum has done its work
   minimum_done : IsDone minimum with_both (9 ∷ 10 ∷ 11 ∷ 12 ∷ []) 4 min_table [] a us c
-  minimum_done =
-      last_done minimum minimum_is_network minimum_feeds_forward with_both (9 ∷ 10 ∷ 11 ∷ 12 ∷ []) 4 min_table refl (omega arith) second_stamps.sound both_free
-      a us c nn (λ s l. empty s (omega arith)) run lack
+  minimum_done = record {
+    goes_on = goes_to_end minimum minimum_is_network minimum_feeds_forward with_minimum refl (omega arith) a us c nn run lack;
+    sound = second_stamps.sound;
+    free = both_free;
+    empty = λ s l. empty s (omega arith);
+  }
 
   -- and so has the leaf of the second variable
   second_done : IsDone minimum with_first (7 ∷ 8 ∷ []) 2 (leaf_table once) after_second a us c
-  second_done =
-      done_before minimum (9 ∷ 10 ∷ 11 ∷ 12 ∷ []) 4 min_table [] min_gives a us c with_first (7 ∷ 8 ∷ []) 2 (leaf_table once) first_stamps.sound second_free
-      (λ s l. empty s (omega arith)) minimum_done
+  second_done = record {
+    goes_on = goes_before minimum with_both (9 ∷ 10 ∷ 11 ∷ 12 ∷ []) 4 min_table [] min_gives a us c minimum_done.goes_on;
+    sound = first_stamps.sound;
+    free = second_free;
+    empty = λ s l. empty s (omega arith);
+  }
 
   -- the leaf of the first
   first_done : IsDone minimum copied (5 ∷ 6 ∷ []) 2 (leaf_table once) after_first a us c
-  first_done =
-      done_before minimum (7 ∷ 8 ∷ []) 2 (leaf_table once) after_second once_gives a us c copied (5 ∷ 6 ∷ []) 2 (leaf_table once) (fanned_sound 4 (1 ∷ 2 ∷ 3 ∷ 4 ∷ [])) first_free
-      (λ s l. empty s (omega arith)) second_done
+  first_done = record {
+    goes_on = goes_before minimum with_first (7 ∷ 8 ∷ []) 2 (leaf_table once) after_second once_gives a us c second_done.goes_on;
+    sound = fanned_sound 4 (1 ∷ 2 ∷ 3 ∷ 4 ∷ []);
+    free = first_free;
+    empty = λ s l. empty s (omega arith);
+  }
 
   -- and the fan-out
   copies_done : IsFanned minimum 4 (1 ∷ 2 ∷ 3 ∷ 4 ∷ []) after_copies a us c
-  copies_done = fanned_before minimum (5 ∷ 6 ∷ []) 2 (leaf_table once) after_first once_gives a us c 4 (1 ∷ 2 ∷ 3 ∷ 4 ∷ []) empty first_done
+  copies_done = record { goes_on = goes_before minimum copied (5 ∷ 6 ∷ []) 2 (leaf_table once) after_first once_gives a us c first_done.goes_on; empty = empty }
 
   -- what was made of copy i is what was there of input i
   copy_is : (i : ℕ) → i < 4 → 1 ≤ get_or (1 ∷ 2 ∷ 3 ∷ 4 ∷ []) i 0 → get_or (1 ∷ 2 ∷ 3 ∷ 4 ∷ []) i 0 ≤ 4 →
@@ -163,7 +171,7 @@ module _ (x x' y y' : ℚ) (nn : AreNotNegative (x ∷ x' ∷ y ∷ y' ∷ [])) 
   input_is s low high = amount-start minimum (x ∷ x' ∷ y ∷ y' ∷ []) s low (omega arith)
 
   -- and nothing else
-  empty : (s : ℕ) → 4 < s → amount (start minimum (x ∷ x' ∷ y ∷ y' ∷ [])) s ≡ 0ℚ
+  empty : IsEmptyAfter 4 (start minimum (x ∷ x' ∷ y ∷ y' ∷ []))
   empty s l = start_empty minimum (x ∷ x' ∷ y ∷ y' ∷ []) s (omega arith, (omega arith, (omega arith, (omega arith, tt)))) refl (omega arith)
 
   -- of four amounts the network stably computes the lesser difference

@@ -37,13 +37,13 @@ module _ (net : Network) (n : ℕ) (rs : List ℕ) (later : List Reaction) (a : 
   -- what was made of a rail is what was there of it
   pub rail_in_run : (s : ℕ) → 1 ≤ s → s ≤ n → made_in net us c s ≡ amount a s
   rail_in_run s low high =
-      made_in_run net done.network done.feed_forward (fanned n rs).reactions later done.reactions a done.not_negative us c done.run done.lack s low (omega (arith, done.species)) (done.later_gives s (omega arith))
+      made_in_run net done.goes_on.network done.goes_on.feed_forward (fanned n rs).reactions later done.goes_on.reactions a done.goes_on.not_negative us c done.goes_on.run done.goes_on.lack s low (omega (arith, done.goes_on.species)) (done.goes_on.later_gives s (omega arith))
       ∙ fans_low rs n 1 n (amount a) s high
 
   -- and of a copy as much as of its rail
   pub copy_in_run : (i : ℕ) → i < length rs → 1 ≤ get_or rs i 0 → get_or rs i 0 ≤ n → made_in net us c (suc (n + i)) ≡ made_in net us c (get_or rs i 0)
   copy_in_run i l low high =
-      made_in_run net done.network done.feed_forward (fanned n rs).reactions later done.reactions a done.not_negative us c done.run done.lack (suc (n + i)) (omega arith) (omega (arith, done.species)) (done.later_gives (suc (n + i)) (omega arith))
+      made_in_run net done.goes_on.network done.goes_on.feed_forward (fanned n rs).reactions later done.goes_on.reactions a done.goes_on.not_negative us c done.goes_on.run done.goes_on.lack (suc (n + i)) (omega arith) (omega (arith, done.goes_on.species)) (done.goes_on.later_gives (suc (n + i)) (omega arith))
       ∙ fans_make rs n 1 n (amount a) i l low (omega arith) high
       ∙ ap (λ x. x +ℚ amount a (get_or rs i 0)) (done.empty (suc (n + i)) (omega arith)) ∙ zero-+ℚ _
       ∙ sym (rail_in_run (get_or rs i 0) low high)

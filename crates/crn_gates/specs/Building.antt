@@ -1,5 +1,5 @@
 -- What a builder keeps, which rails are free, and the state of a run at which a gate has done its work.
-use Rattle.std.specs.Prelude.{◌≡◌, ◌≢◌, ℕ, ◌+◌, ◌<◌, ◌≤◌, List, [], ◌∷◌, ◌++◌, length}
+use Rattle.std.specs.Prelude.{◌≡◌, ◌≢◌, ℕ, ◌<◌, ◌≤◌, List, [], ◌∷◌, ◌++◌, length}
 use Rattle.crn_fraction.specs.Rational.{ℚ, 0ℚ}
 use Rattle.crn_net.specs.Network.{Network, Reaction, AreReactions, IsFeedForward, IsNotNegative, IsApart, Run, amount}
 use Rattle.crn_net.specs.declared.Flow.{Flow}
@@ -40,28 +40,30 @@ pub record StampsOne (b : Built) (xs : List ℕ) (new p : ℕ) (t : List Reactio
   pub rail : IsFree (stamped xs new t b) (slot_species xs b.species p)
   pub others : (s : ℕ) → IsFree b s → IsApart s xs → IsFree (stamped xs new t b) s
 
--- the network goes on from a table stamped on free rails, and a run leads to a state at which each reaction of the table, and each before it, lacks a reactant
-pub record IsDone (net : Network) (b : Built) (xs : List ℕ) (new : ℕ) (t later : List Reaction) (a : List ℚ) (us : List (List Flow)) (c : List ℚ) : Type 0 where
+-- the network goes on from b, and a run leads from a to c, at which each reaction of b lacks a reactant
+pub record GoesOn (net : Network) (b : Built) (later : List Reaction) (a : List ℚ) (us : List (List Flow)) (c : List ℚ) : Type 0 where
   pub network : AreReactions net
   pub feed_forward : IsFeedForward net
-  pub reactions : net.reactions ≡ (stamped xs new t b).reactions ++ later
-  pub species : b.species + new ≤ net.species
-  pub later_gives : (s : ℕ) → s ≤ b.species + new → given_all later s ≡ 0
+  pub reactions : net.reactions ≡ b.reactions ++ later
+  pub species : b.species ≤ net.species
+  pub later_gives : (s : ℕ) → s ≤ b.species → given_all later s ≡ 0
+  pub not_negative : IsNotNegative a
+  pub run : Run net a us c
+  pub lack : FirstLack net (length b.reactions) c
+
+-- nothing was there of the species after n
+abbrev pub IsEmptyAfter : ℕ → List ℚ → Type 0
+IsEmptyAfter n a = (s : ℕ) → n < s → amount a s ≡ 0ℚ
+
+-- a table stamped on free rails has done its work: the run began with nothing of its new species, and led to where its reactions, and those before it,
+-- each lack a reactant
+pub record IsDone (net : Network) (b : Built) (xs : List ℕ) (new : ℕ) (t later : List Reaction) (a : List ℚ) (us : List (List Flow)) (c : List ℚ) : Type 0 where
+  pub goes_on : GoesOn net (stamped xs new t b) later a us c
   pub sound : IsSound b
   pub free : AllFree b xs
-  pub not_negative : IsNotNegative a
-  pub empty : (s : ℕ) → b.species < s → amount a s ≡ 0ℚ
-  pub run : Run net a us c
-  pub lack : FirstLack net (length (stamped xs new t b).reactions) c
+  pub empty : IsEmptyAfter b.species a
 
--- the network goes on from a fan-out of the species 1 to n, and a run leads to a state at which each reaction of the fan-out lacks a reactant
+-- so has a fan-out
 pub record IsFanned (net : Network) (n : ℕ) (rs : List ℕ) (later : List Reaction) (a : List ℚ) (us : List (List Flow)) (c : List ℚ) : Type 0 where
-  pub network : AreReactions net
-  pub feed_forward : IsFeedForward net
-  pub reactions : net.reactions ≡ (fanned n rs).reactions ++ later
-  pub species : n + length rs ≤ net.species
-  pub later_gives : (s : ℕ) → s ≤ n + length rs → given_all later s ≡ 0
-  pub not_negative : IsNotNegative a
-  pub empty : (s : ℕ) → n < s → amount a s ≡ 0ℚ
-  pub run : Run net a us c
-  pub lack : FirstLack net (length (fanned n rs).reactions) c
+  pub goes_on : GoesOn net (fanned n rs) later a us c
+  pub empty : IsEmptyAfter n a

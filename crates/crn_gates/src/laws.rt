@@ -3,16 +3,17 @@
 //! A table is a list of reactions over numbered slots: the operands' rails first, then new species. Stamping writes it into a network, on rails that no
 //! reaction takes yet. The value laws speak of what a run has made of a species: what is there at its end, and what has been taken of it. They hold in every
 //! network that goes on from the stamped table, with or without a context, since they speak of its reactions and species alone.
-ghost use Rattle.std.specs.Prelude.{◌≡◌, ◌+◌, ◌<◌, ◌≤◌, ◌∷◌, [], ℕ, suc, pos, List, length, get_or};
+ghost use Rattle.std.specs.Prelude.{◌≡◌, ◌+◌, ◌<◌, ◌≤◌, ◌∷◌, ◌++◌, [], ℕ, suc, pos, List, length, get_or};
 ghost use Rattle.crn_fraction.specs.Rational.{ℚ, ◌+ℚ◌, ◌-ℚ◌, ◌*ℚ◌, whole, min_ℚ, max_ℚ};
-ghost use Rattle.crn_net.specs.Network.{Network, Reaction, IsNetwork, IsFeedForward, AreAmounts, AreNotNegative, StablyComputes, amount, start, completion, completed, encoded, value_at};
+ghost use Rattle.crn_net.specs.Network.{Network, Reaction, IsNetwork, IsFeedForward, IsNotNegative, Run, AreAmounts, AreNotNegative, StablyComputes, amount, start, completion, completed, encoded, value_at};
 ghost use Rattle.crn_net.specs.declared.Flow.{Flow};
-ghost use Rattle.crn_net.specs.Totals.{made_by, made_in, AreUntaken};
+ghost use Rattle.crn_net.specs.Totals.{made_by, made_in, AreUntaken, IsExhausted};
+ghost use Rattle.crn_net.specs.Reactions.{EachGiven};
 ghost use Rattle.crn_net.specs.Minimum.{minimum};
-ghost use Rattle.crn_gates.specs.Gates.{Built, Factor, IsFactor, Operand, AreOperands, factor_of, AreUpward, times, width_of, add_table, sub_table, min_table, max_table, scale_table, leaf_table, leaf_one_table, min_one_table};
+ghost use Rattle.crn_gates.specs.Gates.{Built, stamped, slot_species, renamed, Factor, IsFactor, Operand, AreOperands, factor_of, AreUpward, times, width_of, add_table, sub_table, min_table, max_table, scale_table, leaf_table, leaf_one_table, min_one_table};
 ghost use Rattle.crn_gates.specs.Terms.{form_value, terms_of, value_of_terms};
 ghost use Rattle.crn_gates.specs.FanOut.{fanned};
-ghost use Rattle.crn_gates.specs.Building.{IsSound, IsFree, AllFree, Stamps, StampsOne, IsFanned};
+ghost use Rattle.crn_gates.specs.Building.{IsSound, IsFree, AllFree, Stamps, StampsOne, GoesOn, IsFanned};
 ghost use Rattle.crn_gates.specs.Values.{StampsOnTwo, StampsOnOne, MakesOfTwo, MakesOfOne, MakesTerms, MakesOnes, MakesOfRails};
 ghost use Rattle.crn_gates.specs.Lesser.{lesser};
 ghost use Rattle.crn_gates.specs.MinimumLayout.{with_minimum};
@@ -52,6 +53,12 @@ pub fn stamped_scales()
 pub fn stamped_rails()
     ensures leaf { (b : Built) (xs : List ℕ) (fs : List Factor) → AreUpward fs → length xs ≡ length fs → IsSound b → AllFree b xs → StampsOne b xs 1 (length fs) (leaf_one_table fs) }
     ensures min { (b : Built) (x y : ℕ) → x < y → IsSound b → AllFree b (x ∷ y ∷ []) → StampsOne b (x ∷ y ∷ []) 1 2 min_one_table }
+{}
+
+/// Gates one after another: a run that leaves each reaction of the last gate, and each before it, without a reactant does so with the gates before it.
+pub fn gates_in_turn()
+    ensures last { (net : Network) → IsNetwork net → IsFeedForward net → (b : Built) → net.reactions ≡ b.reactions → b.species ≤ net.species → (a : List ℚ) (us : List (List Flow)) (c : List ℚ) → IsNotNegative a → Run net a us c → IsExhausted net c → GoesOn net b [] a us c }
+    ensures earlier { (net : Network) (b : Built) (xs : List ℕ) (new : ℕ) (t later : List Reaction) → EachGiven (λ i. length xs ≤ i) t → (a : List ℚ) (us : List (List Flow)) (c : List ℚ) → GoesOn net (stamped xs new t b) later a us c → GoesOn net b (renamed (slot_species xs b.species) t ++ later) a us c }
 {}
 
 /// The value law of fan-out: what a run has made of a rail is what was there at its beginning, and of a copy as much as of its rail.
