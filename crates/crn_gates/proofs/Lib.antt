@@ -1,0 +1,14 @@
+pub mod Lists
+pub mod GateLaws
+pub mod Stamping
+pub mod Transfers
+pub mod Factors
+pub mod Terms
+pub mod Tables
+pub mod BuildingLaws
+pub mod InRun
+pub mod FanLaws
+pub mod OneRail
+pub mod Chain
+pub mod Settled
+pub mod MinimumComputes
