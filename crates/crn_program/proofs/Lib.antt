@@ -8,5 +8,5 @@ pub mod Shifting
 pub mod PartLists
 pub mod Turning
 pub mod Completing
-pub mod MinimumComputes
+pub mod MinimumJobs
 pub mod Answering

@@ -1,6 +1,7 @@
 -- What the program answers: a status, and the text that it writes.
-use Rattle.std.specs.Prelude.{ℕ, ◌≡◌, List, [], ◌∷◌, codes, pos}
-use Rattle.crn_fraction.specs.Rational.{ℚ, whole, min_ℚ}
+use Rattle.std.specs.Prelude.{ℕ, ◌≡◌, List, [], ◌∷◌, codes}
+use Rattle.crn_fraction.specs.Rational.{ℚ}
+use Rattle.crn_gates.specs.Lesser.{lesser}
 use Rattle.crn_net.specs.Network.{Network, Run, IsSettled, start, completion, completed, encoded}
 use Rattle.crn_net.specs.Minimum.{minimum}
 use Rattle.crn_segments.specs.Fits.{CompletionFits}
@@ -22,11 +23,6 @@ abbrev pub IsNoRow : List (List ℕ) → Type 0
 IsNoRow words = (command : Command) → IsRow command words → ⊥
 
 -- ---- `complete`
-
--- the lesser of the first two numbers
-abbrev pub lesser : List ℚ → ℚ
-lesser (x ∷ y ∷ zs) = min_ℚ x y
-lesser zs = whole (pos 0)
 
 -- every number of the completion from c fits, and the output at its end does
 pub record AllFits (net : Network) (c : List ℚ) : Type 0 where

@@ -1,7 +1,7 @@
 use Rattle.std.proofs.Common.{string_bytes}
 use Rattle.std.proofs.lemmas.Result.{IfOk-weaker}
 use Rattle.crn_program.proofs.Answering.{command_answers}
-use Rattle.crn_program.proofs.MinimumComputes.{job_amounts}
+use Rattle.crn_program.proofs.MinimumJobs.{job_amounts}
 use Rattle.crn_program.proofs.answer.command_answer.Goals as goal
 
 pub job_answer-requires : goal.job_answer-requires

@@ -1,6 +1,6 @@
 use Rattle.std.proofs.Common.{◌∙◌, ap, string_bytes}
 use Rattle.crn_program.specs.Report.{each_alone, completion_report}
-use Rattle.crn_program.proofs.MinimumComputes.{state_at, apart_at, end_long, reported}
+use Rattle.crn_program.proofs.MinimumJobs.{state_at, apart_at, end_long, reported}
 use Rattle.crn_program.proofs.answer.job_answer.Goals as goal
 
 pub complete-requires-clause-state : goal.complete-requires-clause-state

@@ -1,4 +1,4 @@
--- The network of the minimum of two variables stably computes the lesser of them.
+-- The answer to a job: what its amounts are, and that the completion of the minimum is what is answered.
 use Rattle.std.proofs.Common.{◌≡◌, ℕ, ◌<◌, ◌≤◌, List, [], ◌∷◌, length, pos, refl, sym, ap, ap₂, ◌∙◌, subst, ⊎_elim, arith}
 use Rattle.std.proofs.lemmas.Bool.{cases_lt}
 use Rattle.std.proofs.lemmas.Int.{ints, clamps}
@@ -19,38 +19,12 @@ use Rattle.crn_net.proofs.Settling.{completes}
 use Rattle.crn_net.proofs.Start.{start_is_state, start_not_negative}
 use Rattle.crn_segments.proofs.Amounts.{quotient_not_negative}
 use Rattle.crn_segments.specs.Fits.{CompletionFits}
-use Rattle.crn_program.specs.Answer.{lesser, AllFits, ReportsCompletion}
+use Rattle.crn_gates.specs.Lesser.{lesser}
+use Rattle.crn_gates.proofs.MinimumComputes.{minimum_computes}
+use Rattle.crn_program.specs.Answer.{AllFits, ReportsCompletion}
 use Rattle.crn_program.specs.JobText.{IsJob, Numeral, Whole, Over, IsNumeral, numeral_value}
 use Rattle.crn_program.specs.Report.{each_alone, completion_report, OutputFits}
 use Rattle.crn_program.specs.Shifts.{HasApartSides}
-
--- crossed sums less what was added
-crossed : (a b c d : ℚ) → min_ℚ (a +ℚ d) (c +ℚ b) -ℚ (d +ℚ b) ≡ min_ℚ (a -ℚ b) (c -ℚ d)
-crossed = by_common_4 (λ a b c d. min_ℚ (a +ℚ d) (c +ℚ b) -ℚ (d +ℚ b) ≡ min_ℚ (a -ℚ b) (c -ℚ d)) (λ e p x y z v. simp linear (omega (arith, ints, clamps)))
-
-made_plus : (a b c d : ℚ) → made_by minimum.reactions (amount (a ∷ b ∷ c ∷ d ∷ 0ℚ ∷ 0ℚ ∷ 0ℚ ∷ 0ℚ ∷ 0ℚ ∷ 0ℚ ∷ 0ℚ ∷ 0ℚ ∷ 0ℚ ∷ 0ℚ ∷ 0ℚ ∷ 0ℚ ∷ [])) 15 ≡ min_ℚ (a +ℚ d) (c +ℚ b)
-made_plus a b c d = simp (zero-*ℚ, +ℚ-zero, one-*ℚ, /ℚ-one, zero-+ℚ)
-
-made_minus : (a b c d : ℚ) → made_by minimum.reactions (amount (a ∷ b ∷ c ∷ d ∷ 0ℚ ∷ 0ℚ ∷ 0ℚ ∷ 0ℚ ∷ 0ℚ ∷ 0ℚ ∷ 0ℚ ∷ 0ℚ ∷ 0ℚ ∷ 0ℚ ∷ 0ℚ ∷ 0ℚ ∷ [])) 16 ≡ d +ℚ b
-made_minus a b c d = simp (zero-*ℚ, +ℚ-zero, one-*ℚ, /ℚ-one, zero-+ℚ)
-
-outputs_untaken : AreUntaken minimum minimum.output
-outputs_untaken = (untaken minimum 15 refl, untaken minimum 16 refl)
-
-made_value : (a b c d : ℚ) → value_at minimum.output (made_by minimum.reactions (amount (start minimum (a ∷ b ∷ c ∷ d ∷ [])))) ≡ min_ℚ (a -ℚ b) (c -ℚ d)
-unfolding start
-made_value a b c d = ap₂ (λ x y. x -ℚ y) (made_plus a b c d) (made_minus a b c d) ∙ crossed a b c d
-
--- from every start, and after every run from it
-pub minimum_computes : (xs : List ℚ) → AreAmounts minimum xs → StablyComputes minimum xs (lesser (encoded minimum.rails xs))
-minimum_computes (a ∷ b ∷ c ∷ d ∷ []) ok =
-    let xs = a ∷ b ∷ c ∷ d ∷ [] in
-    subst (StablyComputes minimum xs) (made_value a b c d) (computes_made minimum minimum_is_network minimum_feeds_forward outputs_untaken xs (start_not_negative minimum xs ok.not_negative))
-minimum_computes [] ok = absurd (omega (arith, ok.long))
-minimum_computes (a ∷ []) ok = absurd (omega (arith, ok.long))
-minimum_computes (a ∷ b ∷ []) ok = absurd (omega (arith, ok.long))
-minimum_computes (a ∷ b ∷ c ∷ []) ok = absurd (omega (arith, ok.long))
-minimum_computes (a ∷ b ∷ c ∷ d ∷ e ∷ xs) ok = absurd (omega (arith, ok.long))
 
 -- a network that feeds forward gives nothing that it takes
 sides_apart : (net : Network) → IsFeedForward net → HasApartSides net
