@@ -1,5 +1,5 @@
 -- What a call of the program took and wrote, and what it answers.
-use Rattle.std.proofs.Common.{◌≡◌, ℕ, ◌+◌, ◌<◌, ◌≤◌, List, [], ◌∷◌, ◌++◌, length, take, drop, get_or, map, Option, Some, None, IfSome, IfNone, sym, ap, refl, ◌∙◌, subst, arith, length-append, append-nil, drop_at, drop_of_length-le}
+use Rattle.std.proofs.Common.{◌≡◌, ℕ, ◌+◌, ◌<◌, ◌≤◌, List, [], ◌∷◌, ◌++◌, length, drop, get_or, map, Option, Some, None, IfSome, IfNone, sym, ap, refl, ◌∙◌, arith, length-append, append-nil, drop_at, drop_of_length-le}
 use Rattle.std.specs.Io.KnownBytes.{Appends, Consumes, IsAtEnd}
 use Rattle.std.specs.String.{string_bytes}
 use Rattle.std.specs.Prelude.{String, codes}
@@ -9,7 +9,7 @@ use Rattle.crn_program.specs.declared.answer.Command.{Command}
 use Rattle.crn_program.specs.declared.answer.Command.TheVariants.{Complete}
 use Rattle.crn_program.specs.declared.status.Status.{Status}
 use Rattle.crn_program.specs.declared.status.Status.TheVariants.{Done, Usage, ReadFault, WriteFault, Memory, TooBig, NotBuilt}
-use Rattle.crn_program.specs.Answer.{Answers, CommandAnswers, CompleteAnswers, JobAnswers, IsRow, IsNoRow}
+use Rattle.crn_program.specs.Answer.{Answers, CommandAnswers, CompleteAnswers, JobAnswers, IsRow}
 use Rattle.crn_program.specs.JobText.{IsJob}
 use Rattle.crn_program.specs.Reading.{read_job}
 use Rattle.crn_program.specs.Report.{refusal}

@@ -1,10 +1,9 @@
 -- A completion, turn by turn.
-use Rattle.std.proofs.Common.{◌≡◌, ℕ, zero, suc, ◌+◌, ◌<◌, ◌≤◌, List, [], ◌∷◌, ◌++◌, map, length, Option, Some, None, refl, sym, ap, ap₂, ◌∙◌, subst, ⊎_elim, arith, below_more}
-use Rattle.std.proofs.lemmas.List.{map-append, append-nil}
-use Rattle.std.specs.Prelude.{option_to_list}
+use Rattle.std.proofs.Common.{◌≡◌, ℕ, suc, ◌+◌, ◌<◌, List, [], ◌∷◌, ◌++◌, length, Option, Some, None, refl, sym, ap, ap₂, ◌∙◌, subst, arith, below_more}
+use Rattle.std.proofs.lemmas.List.{map-append}
 use Rattle.crn_fraction.specs.Rational.{ℚ}
 use Rattle.crn_net.proofs.Completion.{after_all-append}
-use Rattle.crn_net.specs.Network.{Network, IsState, after_all, alone, with_greatest, completion, completed, completion_to}
+use Rattle.crn_net.specs.Network.{Network, IsState, after_all, with_greatest, completion_to}
 use Rattle.crn_net.specs.declared.Flow.{Flow}
 use Rattle.crn_segments.specs.Fits.{TurnFits, CompletionFits}
 use Rattle.crn_program.specs.Report.{each_alone}

@@ -1,22 +1,15 @@
 -- The answer to a job: what its amounts are, and that the completion of the minimum is what is answered.
-use Rattle.std.proofs.Common.{◌≡◌, ℕ, ◌<◌, ◌≤◌, List, [], ◌∷◌, length, pos, refl, sym, ap, ap₂, ◌∙◌, subst, ⊎_elim, arith}
+use Rattle.std.proofs.Common.{◌≡◌, ℕ, ◌<◌, ◌≤◌, List, [], length, refl, sym, ap, ap₂, ◌∙◌, subst, ⊎_elim, arith}
 use Rattle.std.proofs.lemmas.Bool.{cases_lt}
-use Rattle.std.proofs.lemmas.Int.{ints, clamps}
-use Rattle.crn_fraction.specs.Rational.{ℚ, 0ℚ, ◌+ℚ◌, ◌-ℚ◌, ◌*ℚ◌, ◌/ℚ◌, ◌≤ℚ◌, whole, min_ℚ}
-use Rattle.crn_fraction.proofs.Order.{linear}
-use Rattle.crn_fraction.proofs.Products.{/ℚ-one, whole_nonneg}
-use Rattle.crn_fraction.proofs.Ratios.{by_common_4}
-use Rattle.crn_fraction.proofs.Ring.{zero-*ℚ, +ℚ-zero, one-*ℚ, zero-+ℚ}
+use Rattle.crn_fraction.specs.Rational.{ℚ, 0ℚ, ◌≤ℚ◌}
+use Rattle.crn_fraction.proofs.Products.{whole_nonneg}
 use Rattle.crn_net.specs.Minimum.{minimum}
-use Rattle.crn_net.specs.Network.{Network, amount, start, AreAmounts, AreNotNegative, IsNetwork, IsFeedForward, IsState, StablyComputes, taken, given, completed, completion, encoded, value_at, Run}
-use Rattle.crn_net.specs.Totals.{made_by, AreUntaken}
+use Rattle.crn_net.specs.Network.{Network, start, AreAmounts, AreNotNegative, IsFeedForward, IsState, given, completed, completion}
 use Rattle.crn_net.specs.declared.Flow.{Flow}
-use Rattle.crn_net.proofs.Computes.{computes_made}
 use Rattle.crn_net.proofs.Exhausted.{length-after_all}
-use Rattle.crn_net.proofs.FeedForward.{untaken}
 use Rattle.crn_net.proofs.MinimumRun.{minimum_is_network, minimum_feeds_forward}
 use Rattle.crn_net.proofs.Settling.{completes}
-use Rattle.crn_net.proofs.Start.{start_is_state, start_not_negative}
+use Rattle.crn_net.proofs.Start.{start_is_state}
 use Rattle.crn_segments.proofs.Amounts.{quotient_not_negative}
 use Rattle.crn_segments.specs.Fits.{CompletionFits}
 use Rattle.crn_gates.specs.Lesser.{lesser}

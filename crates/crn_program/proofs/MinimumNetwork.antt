@@ -1,6 +1,6 @@
 -- The network of the minimum of two variables, as the code makes it.
-use Rattle.std.proofs.Common.{◌≡◌, ℕ, ◌≤◌, ◌+◌, List, [], ◌∷◌, map, length, refl, sym, ap, ap₂, ◌∙◌, subst, arith, slice_set, get_or}
-use Rattle.std.specs.Prelude.{replicate, pos}
+use Rattle.std.proofs.Common.{◌≡◌, ℕ, List, [], ◌∷◌, map, length, refl, sym, ap, ◌∙◌, subst, arith, slice_set, get_or}
+use Rattle.std.specs.Prelude.{replicate}
 use Rattle.crn_fraction.specs.Rational.{ℚ, 0ℚ}
 use Rattle.crn_net.proofs.MinimumRun.{minimum_is_network}
 use Rattle.crn_net.specs.Limits.{IsValid}

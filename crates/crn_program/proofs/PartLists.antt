@@ -1,6 +1,6 @@
 -- The parts of a side, as the code goes through them.
-use Rattle.std.proofs.Common.{◌≡◌, ℕ, zero, suc, ◌+◌, ◌<◌, ◌≤◌, List, [], ◌∷◌, length, get_or, drop, pos, refl, sym, ap, ◌∙◌, subst, arith}
-use Rattle.std.proofs.lemmas.List.{drop_more, get_or_default}
+use Rattle.std.proofs.Common.{◌≡◌, ℕ, zero, suc, ◌+◌, ◌<◌, List, [], ◌∷◌, length, get_or, drop, pos, ap, arith}
+use Rattle.std.proofs.lemmas.List.{drop_more}
 use Rattle.crn_net.specs.Network as Plain
 use Rattle.crn_net.specs.Views.{part_of, parts_of}
 use Rattle.crn_net.specs.declared.Part.{Part}

@@ -1,10 +1,10 @@
 -- Quotients of numbers that fit, and the least of quotients.
-use Rattle.std.proofs.Common.{◌≡◌, ◌≢◌, ℕ, ◌<◌, ◌≤◌, ◌^◌, ◌/◌, pos, ◌<ℤ◌, ℤ, Bool, true, false, IsTrue, IsSome, List, [], ◌∷◌, length, Option, Some, None, Result, w64, to_z, refl, sym, ap, ◌∙◌, subst, ⊎_elim, arith, lit<}
-use Rattle.std.specs.Prelude.{Ok, Err, unsigned_abs, int_div}
+use Rattle.std.proofs.Common.{◌≡◌, ◌≢◌, ℕ, ◌<◌, ◌≤◌, ◌^◌, ◌/◌, pos, ◌<ℤ◌, ℤ, Bool, true, false, IsTrue, IsSome, List, [], ◌∷◌, length, Option, Some, None, Result, refl, sym, ap, ◌∙◌, subst, ⊎_elim, arith, lit<}
+use Rattle.std.specs.Prelude.{Ok, Err, unsigned_abs}
 use Rattle.std.specs.Result.{OkIff, IsOk}
 use Rattle.std.proofs.lemmas.Int.{ints}
 use Rattle.std.proofs.Math.Nat.{div-le_self}
-use Rattle.crn_fraction.specs.Rational.{ℚ, 0ℚ, ratio, whole, ◌/ℚ◌, min_ℚ, is_zero_ℚ, unsigned_abs-int_div}
+use Rattle.crn_fraction.specs.Rational.{ℚ, 0ℚ, whole, ◌/ℚ◌, min_ℚ, is_zero_ℚ, unsigned_abs-int_div}
 use Rattle.crn_fraction.specs.Gcd.{gcd}
 use Rattle.crn_fraction.specs.Frac.{IsFrac}
 use Rattle.crn_fraction.specs.Parts.{num-whole, den-whole}

@@ -1,16 +1,16 @@
 -- A job is read exactly: what is read is spelled so, and what is spelled so is read.
-use Rattle.std.proofs.Common.{◌≡◌, ◌≢◌, ℕ, ◌+◌, ◌<◌, ◌≤◌, ◌^◌, ◌⊎◌, Bool, true, false, eqb, ltb, lt-ltb, ltb-true, eqb-true, eq-eqb, ne_eqb, false-eqb, List, [], ◌∷◌, ◌++◌, length, take, drop, get_or, Option, Some, None, sym, refl, ap, ap₂, ◌∙◌, ⊎_elim, arith, inl, inr, pos, take_at, drop_at, take-append-drop, append_assoc, append-nil, rules, length-append}
+use Rattle.std.proofs.Common.{◌≡◌, ℕ, ◌<◌, ◌≤◌, ◌^◌, Bool, true, false, ltb, lt-ltb, ltb-true, eqb-true, ne_eqb, false-eqb, List, [], ◌∷◌, ◌++◌, length, take, drop, get_or, Option, Some, None, sym, refl, ap, ap₂, ◌∙◌, ⊎_elim, arith, pos, take_at, drop_at, take-append-drop, append_assoc, append-nil, rules, length-append}
 use Rattle.std.proofs.lemmas.Bool.{cases_Bool, cases_lt}
 use Rattle.std.proofs.lemmas.Bool.Decides.{nat_tests}
 use Rattle.std.proofs.lemmas.Fmt.{decimal_is_IsNumeral, first_decimal, decimal_digit, length-decimal-le, decimal-digits_value}
 use Rattle.std.proofs.lemmas.Str.Parse.{IsNumeralModel, numerals_by_value}
-use Rattle.std.specs.Prelude.{codes, ◌==◌, ◌&&◌, ◌||◌, nat_lt}
+use Rattle.std.specs.Prelude.{codes, ◌==◌, ◌&&◌}
 use Rattle.std.specs.Option.{option_map, option_and_then}
-use Rattle.std.specs.List.{list_all, prefix_len}
+use Rattle.std.specs.List.{list_all}
 use Rattle.std.specs.Char.{is_ascii_digit}
 use Rattle.std.specs.Fmt.{decimal}
 use Rattle.std.specs.Str.Parse.{AllDigits, digits_value}
-use Rattle.crn_fraction.specs.Rational.{ℚ, whole, ◌/ℚ◌}
+use Rattle.crn_fraction.specs.Rational.{ℚ, whole}
 use Rattle.crn_fraction.proofs.Products.{/ℚ-one}
 use Rattle.crn_program.specs.JobText.{Numeral, Whole, Over, numeral_text, numeral_value, IsNumeral, input_line, function_lines, IsJob}
 use Rattle.crn_program.specs.Reading.{after_front, digit_count, fitting_value, is_no_number, number_of, read_number, quotient, over, amount_from, read_amount, read_amount_and, read_input, four_amounts, read_job}

@@ -1,10 +1,10 @@
 -- The turn of a reaction in a completion: its sides, one after the other, are one step with the greatest flux.
-use Rattle.std.proofs.Common.{◌≡◌, ◌≢◌, ℕ, zero, suc, ◌+◌, ◌<◌, ◌≤◌, ◌||◌, ◌==◌, if◌then◌else◌, Bool, true, false, List, [], ◌∷◌, length, get_or, pos, refl, sym, ◌∙◌, ap, ap₂, subst, ◌⊎◌, inl, inr, ⊎_elim, arith, ltb, lt-ltb}
+use Rattle.std.proofs.Common.{◌≡◌, ◌≢◌, ℕ, suc, ◌+◌, ◌<◌, ◌≤◌, ◌||◌, ◌==◌, if◌then◌else◌, Bool, true, false, List, [], ◌∷◌, length, pos, refl, sym, ◌∙◌, ap, ap₂, subst, ◌⊎◌, inl, inr, ⊎_elim, arith, lt-ltb}
 use Rattle.std.specs.Prelude.{nat_lt, neg_ℤ}
-use Rattle.std.proofs.lemmas.Bool.{cases_lt, le-ltb}
+use Rattle.std.proofs.lemmas.Bool.{cases_lt}
 use Rattle.std.proofs.lemmas.List.{ext_get_or}
 use Rattle.std.proofs.lemmas.List.FromFn.{length-map-range_with_len}
-use Rattle.crn_fraction.proofs.Order.{≤ℚ_or_<ℚ, ≤ℚ_antisymm, ≤ℚ_of_<ℚ, ≤ℚ_refl}
+use Rattle.crn_fraction.proofs.Order.{≤ℚ_or_<ℚ, ≤ℚ_antisymm}
 use Rattle.crn_fraction.proofs.Linear.{<ℚ_irrefl, add-≤ℚ-add, difference_nonneg}
 use Rattle.crn_fraction.proofs.Products.{≤ℚ_of_whole-*ℚ, is_zero_ℚ_cases, *ℚ-nonneg, whole_nonneg}
 use Rattle.crn_fraction.proofs.Ratios.{neg_ℚ-ratio}
@@ -14,13 +14,12 @@ use Rattle.crn_fraction.specs.Frac.{IsFrac}
 use Rattle.crn_net.proofs.Completion.{legal_alone, amount_alone}
 use Rattle.crn_net.proofs.Shape.{count_of_other, count_of_same, count_of_in_range}
 use Rattle.crn_net.proofs.Taken.{greatest_flux_fits, greatest_flux_uses}
-use Rattle.crn_net.specs.Network.{Network, Part, Reaction, amount, numbered, taken, given, count_of, after, alone, greatest, greatest_flux, with_greatest, AreParts, IsNetwork, IsState, IsLegal, after_all}
+use Rattle.crn_net.specs.Network.{Network, Part, amount, numbered, taken, given, count_of, after, alone, greatest, greatest_flux, with_greatest, AreParts, IsNetwork, IsState, IsLegal, after_all}
 use Rattle.crn_net.specs.Totals.{change, LacksReactant}
 use Rattle.crn_net.specs.declared.Flow.{Flow}
-use Rattle.crn_segments.specs.Fits.{is_on_side, flows_of, SumFits, StepFits, QuotientsFit, TurnFits}
-use Rattle.crn_program.specs.declared.completion.Side.{Side}
+use Rattle.crn_segments.specs.Fits.{is_on_side, flows_of, SumFits, StepFits, TurnFits}
 use Rattle.crn_program.specs.declared.completion.Side.TheVariants.{Takes, Gives}
-use Rattle.crn_program.specs.Shifts.{lacks, signed, after_parts, EachSum, BothFit, SumsFit, SumsStay, PartsFit, quotient_at, HasApartSides}
+use Rattle.crn_program.specs.Shifts.{lacks, after_parts, BothFit, SumsFit, SumsStay, PartsFit, HasApartSides}
 use Rattle.crn_program.proofs.Shifting.{moved_of, moved_none, amount-after_parts, length-after_parts, each_sum, sum_of_each}
 
 same_or_other : (a b : ℕ) → (a ≡ b) ⊎ (a ≢ b)

@@ -10,7 +10,7 @@ use Rattle.crn_program.specs.Report.{completion_report, refusal, OutputFits}
 use Rattle.crn_program.specs.declared.answer.Command.{Command}
 use Rattle.crn_program.specs.declared.answer.Command.TheVariants.{Complete}
 use Rattle.crn_program.specs.declared.status.Status.{Status}
-use Rattle.crn_program.specs.declared.status.Status.TheVariants.{Done, Usage, ReadFault, WriteFault, Memory, TooBig, NotBuilt}
+use Rattle.crn_program.specs.declared.status.Status.TheVariants.{Done, Usage, TooBig, NotBuilt}
 
 -- ---- words
 

@@ -1,4 +1,4 @@
-use Rattle.std.proofs.Common.{arith, rules, inl, string_bytes}
+use Rattle.std.proofs.Common.{rules, inl, string_bytes}
 use Rattle.std.proofs.lemmas.Result.{IfOk-weaker}
 use Rattle.crn_program.proofs.Answering.{some_came, row_answer}
 use Rattle.crn_program.proofs.answer.answer.Goals as goal

@@ -1,5 +1,5 @@
 use Rattle.std.proofs.Common.{◌∙◌, ap, string_bytes}
-use Rattle.crn_program.specs.Report.{each_alone, completion_report}
+use Rattle.crn_program.specs.Report.{each_alone}
 use Rattle.crn_program.proofs.MinimumJobs.{state_at, apart_at, end_long, reported}
 use Rattle.crn_program.proofs.answer.job_answer.Goals as goal
 

@@ -1,5 +1,4 @@
 use Rattle.std.proofs.Common.{arith, rules}
-use Rattle.crn_program.specs.declared.answer.Command.TheVariants.{Complete}
 use Rattle.crn_program.proofs.Answering.{too_many_came, takes_too_many, takes_all, too_long_answer}
 use Rattle.crn_program.proofs.answer.text_answer.Goals as goal
 

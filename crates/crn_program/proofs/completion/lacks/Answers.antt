@@ -1,7 +1,6 @@
-use Rattle.std.proofs.Common.{◌≡◌, ◌∙◌, ◌+◌, ap, sym, arith, drop, length, ◌||◌, true}
-use Rattle.crn_fraction.specs.Rational.{is_zero_ℚ}
+use Rattle.std.proofs.Common.{◌≡◌, ◌∙◌, ◌+◌, ap, sym, drop, length, ◌||◌}
 use Rattle.crn_net.specs.Network.{amount}
-use Rattle.crn_net.specs.Views.{part_of, parts_of}
+use Rattle.crn_net.specs.Views.{parts_of}
 use Rattle.crn_program.specs.Shifts.{lacks}
 use Rattle.crn_program.proofs.PartLists.{read, parts_left, part_is}
 use Rattle.crn_program.proofs.Quotients.{zero_test}

@@ -1,11 +1,7 @@
-use Rattle.std.proofs.Common.{◌≡◌, ◌+◌, ℕ, length, drop, List, ◌∷◌, subst, sym, arith, ◌∙◌}
-use Rattle.crn_fraction.specs.Rational.{ℚ}
-use Rattle.crn_net.specs.Network as Plain
-use Rattle.crn_net.specs.Network.{amount}
-use Rattle.crn_net.specs.Views.{part_of, parts_of}
+use Rattle.std.proofs.Common.{length, subst, sym}
+use Rattle.crn_net.specs.Views.{part_of}
 use Rattle.crn_program.specs.Shifts.{IsPart}
-use Rattle.crn_program.proofs.PartLists.{read, parts_left, part_is}
-use Rattle.crn_program.proofs.Shifting.{Shifted}
+use Rattle.crn_program.proofs.PartLists.{read, part_is}
 use Rattle.crn_program.proofs.completion.shift.Goals as goal
 
 pub shift_part-requires-clause-part : goal.shift_part-requires-clause-part

@@ -1,4 +1,4 @@
-use Rattle.std.proofs.Common.{◌≡◌, length, drop}
+use Rattle.std.proofs.Common.{drop}
 use Rattle.crn_net.specs.Views.{parts_of}
 use Rattle.crn_program.proofs.Shifting.{Shifted}
 use Rattle.crn_program.proofs.completion.shift.Given as goal

@@ -1,5 +1,5 @@
-use Rattle.std.proofs.Common.{◌≤◌, ◌+◌, ◌*◌, ◌^◌, ◌∙◌, sym, get_or, arith, rules}
-use Rattle.std.specs.Char.{is_ascii_digit, digit_value}
+use Rattle.std.proofs.Common.{◌∙◌, sym, get_or, arith, rules}
+use Rattle.std.specs.Char.{is_ascii_digit}
 use Rattle.crn_program.proofs.Digits.{passes_at, digit_bounds, too_great_more}
 use Rattle.crn_program.proofs.job.fitting_value.Goals as goal
 

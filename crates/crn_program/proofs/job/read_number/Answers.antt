@@ -1,4 +1,4 @@
-use Rattle.std.proofs.Common.{arith, ap, take, ◌≤◌, length}
+use Rattle.std.proofs.Common.{arith}
 use Rattle.std.proofs.lemmas.List.Sums.{prefix_len-le-length}
 use Rattle.std.specs.Char.{is_ascii_digit}
 use Rattle.crn_program.proofs.Digits.{prefix_passes}

@@ -1,4 +1,3 @@
-use Rattle.std.proofs.Common.{arith}
 use Rattle.crn_fraction.proofs.Values.{cast_natural}
 use Rattle.crn_program.proofs.Quotients.{answered, IsFrac-cast_quotient}
 use Rattle.crn_program.proofs.job.value_of.Goals as goal

@@ -1,5 +1,5 @@
 use Rattle.crn_net.specs.Views.{reactions_of}
-use Rattle.crn_program.proofs.MinimumNetwork.{network_with, valid_with}
+use Rattle.crn_program.proofs.MinimumNetwork.{valid_with}
 use Rattle.crn_program.proofs.minimum.minimum.Goals as goal
 
 pub want_of_memory-requires : goal.want_of_memory-requires

@@ -1,4 +1,4 @@
-use Rattle.std.proofs.Common.{◌∙◌, ap, arith, slice_set, get_or, ◌≡◌, length}
+use Rattle.std.proofs.Common.{◌∙◌, ap, arith, slice_set, get_or}
 use Rattle.crn_program.proofs.MinimumNetwork.{set_all_is_start}
 use Rattle.crn_program.proofs.minimum.start.Goals as goal
 
