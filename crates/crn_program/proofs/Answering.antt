@@ -55,6 +55,9 @@ pub read_is_none : (text : List ℕ) (r : Option (List ℚ)) → r ≡ read_job 
 read_is_none text None is = λ amounts job. let wrong : None ≡ Some amounts = is ∙ job_read text amounts job in absurd (cc wrong)
 read_is_none text (Some amounts) is = tt
 
+pub read_is_only : (text : List ℕ) (r : Option (List ℚ)) → r ≡ read_job text → (amounts : List ℚ) → IsJob text amounts → r ≡ Some amounts
+read_is_only text r is amounts job = is ∙ job_read text amounts job
+
 -- ---- answers
 
 -- the answer to a job is the answer to its text

@@ -1,30 +1,11 @@
 -- The number that digits write.
-use Rattle.std.proofs.Common.{◌≡◌, ℕ, ◌+◌, ◌*◌, ◌-◌, ◌<◌, ◌≤◌, ◌^◌, Bool, true, List, [], ◌∷◌, length, get_or, take, drop, one-add, sym, refl, ap, ◌∙◌, ⊎_elim, arith, Some, None, lt-ltb, drop_of_length-le}
+use Rattle.std.proofs.Common.{◌≡◌, ℕ, ◌+◌, ◌*◌, ◌<◌, ◌≤◌, ◌^◌, Bool, true, List, [], ◌∷◌, length, get_or, take, drop, one-add, sym, refl, ap, ◌∙◌, ⊎_elim, arith, Some, None, lt-ltb, drop_of_length-le}
 use Rattle.std.proofs.lemmas.Bool.{cases_Bool, le-ltb}
-use Rattle.std.proofs.lemmas.Bool.Decides.{nat_tests}
-use Rattle.std.proofs.lemmas.List.{drop_more}
-use Rattle.std.proofs.lemmas.List.Folds.{list_all_at}
 use Rattle.std.specs.List.{list_all, prefix_len}
-use Rattle.std.specs.Char.{is_ascii_digit, digit_value}
+use Rattle.std.specs.Char.{digit_value}
 use Rattle.std.specs.Str.Parse.{digits_value, digits_value_after}
+use Rattle.crn_token.proofs.DigitLemmas.{digits_value_next, digits_value_grows}
 use Rattle.crn_program.specs.Reading.{fitting_value}
-
--- what holds of each element holds of the one at an index
-pub passes_at : (p : ℕ → Bool) (xs : List ℕ) (i : ℕ) → list_all p xs ≡ true → i < length xs → p (get_or xs i 0) ≡ true
-passes_at p xs i each within = ⊎_elim (λ t. t) (λ f. let wrong = sym each ∙ list_all_at p xs i 0 within f in cc) (cases_Bool (p (get_or xs i 0)))
-
--- a digit is 48 to 57, and its value is what is above 48
-pub digit_bounds : (b : ℕ) → is_ascii_digit b ≡ true → (48 ≤ b) × (b ≤ 57) × (digit_value b ≡ b - 48)
-digit_bounds b digit = (grind (arith, nat_tests, digit), grind (arith, nat_tests, digit), grind (arith, nat_tests, digit))
-
--- one digit more
-pub digits_value_next : (n : ℕ) (xs : List ℕ) (i : ℕ) → i < length xs → digits_value_after 10 n (drop i xs) ≡ digits_value_after 10 (n * 10 + digit_value (get_or xs i 0)) (drop (i + 1) xs)
-digits_value_next n xs i within = ap (digits_value_after 10 n) (drop_more xs i 0 within)
-
--- more digits make no smaller number
-pub digits_value_grows : (n : ℕ) (ds : List ℕ) → n ≤ digits_value_after 10 n ds
-digits_value_grows n [] = omega arith
-digits_value_grows n (d ∷ ds) = omega (arith, digits_value_grows (n * 10 + digit_value d) ds)
 
 too_great : (ds : List ℕ) → 2 ^ 63 ≤ digits_value_after 10 0 ds → fitting_value ds ≡ None
 too_great ds great = rw (le-ltb (digits_value 10 ds) (2 ^ 63) great) refl

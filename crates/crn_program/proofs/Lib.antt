@@ -10,3 +10,4 @@ pub mod Turning
 pub mod Completing
 pub mod MinimumJobs
 pub mod Answering
+pub mod OneAnswer

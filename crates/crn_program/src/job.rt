@@ -153,6 +153,7 @@ fn read_amounts(text: &[u8]) -> Option<[Frac; 4]>
 /// The amounts of the two inputs, plus before minus, where the text is a job.
 pub fn read_job(text: &[u8]) -> Option<[Frac; 4]>
     ensures job { IfSome result (λ amounts. IsJob text.now amounts) }
+    ensures only { (amounts : List ℚ) → IsJob text.now amounts → result ≡ Some amounts }
     ensures none { IfNone result ((amounts : List ℚ) → IsJob text.now amounts → ⊥) }
 {
     read_amounts(text)

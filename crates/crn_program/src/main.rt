@@ -17,6 +17,7 @@ use std::{env, io};
 mod answer;
 mod completion;
 mod job;
+mod laws;
 mod minimum;
 mod report;
 mod status;

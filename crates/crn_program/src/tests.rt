@@ -66,13 +66,21 @@ fn refuses_other_texts(rt: HostRuntime) -> Result<(), Fail> {
     Ok(())
 }
 
+// A product of the completion does not fit, and then the value alone: 4294967291 and 4294967279 are prime.
 #[test]
 fn refuses_what_does_not_fit(rt: HostRuntime) -> Result<(), Fail> {
-    let inputs = "input 0 9223372036854775807\ninput 1 0\n";
-    let text = format!(in rt.alloc(); "{FUNCTION}{inputs}")?;
-    let (status, written) = ran(rt.alloc(), &["complete"], text.as_str())?;
-    assert_eq!(rt; status, Status::TooBig);
-    assert!(rt; written.as_slice() == b"refused: too big\n".as_slice());
+    for inputs in [
+        "input 0 9223372036854775807\ninput 1 0\n",
+        "input 1/4294967291 1/4294967279\ninput 4294967278/4294967279 0\n",
+    ] {
+        let text = format!(in rt.alloc(); "{FUNCTION}{inputs}")?;
+        let (status, written) = ran(rt.alloc(), &["complete"], text.as_str())?;
+        assert_eq!(rt; status, Status::TooBig, "{inputs}");
+        assert!(rt;
+            written.as_slice() == b"refused: too big\n".as_slice(),
+            "{inputs}"
+        );
+    }
     Ok(())
 }
 

@@ -1,6 +1,7 @@
 use Rattle.std.proofs.Common.{◌∙◌, sym, get_or, arith, rules}
 use Rattle.std.specs.Char.{is_ascii_digit}
-use Rattle.crn_program.proofs.Digits.{passes_at, digit_bounds, too_great_more}
+use Rattle.crn_token.proofs.DigitLemmas.{passes_at, digit_bounds}
+use Rattle.crn_program.proofs.Digits.{too_great_more}
 use Rattle.crn_program.proofs.job.fitting_value.Goals as goal
 
 pub returns-in_err-checked_mul : goal.returns-in_err-checked_mul
