@@ -8,3 +8,5 @@ pub mod Wides
 pub mod Minus
 pub mod Multiples
 pub mod Unique
+pub mod WholePoints
+pub mod Distinct

@@ -1,11 +1,12 @@
 -- A sum of products of whole numbers, product by product.
-use Rattle.std.proofs.Common.{◌≡◌, ℕ, zero, suc, ◌+◌, ◌*◌, ◌<◌, ◌≤◌, ◌^◌, List, [], ◌∷◌, length, get_or, take, refl, sym, ap₂, ◌∙◌, arith, to_z, of_z, add-one}
+use Rattle.std.proofs.Common.{◌≡◌, ℕ, zero, suc, ◌+◌, ◌*◌, ◌<◌, ◌≤◌, ◌^◌, List, [], ◌∷◌, length, get_or, take, refl, sym, ap, ap₂, ◌∙◌, arith, to_z, of_z, add-one}
 use Rattle.std.specs.Prelude.{ℤ, pos, ◌+ℤ◌, ◌*ℤ◌, unsigned_abs}
 use Rattle.std.specs.Int.{w128}
-use Rattle.std.proofs.lemmas.Int.{ints}
+use Rattle.std.proofs.lemmas.Int.{ints, unsigned_abs-mul}
+use Rattle.std.proofs.lemmas.Nat.{mul-le}
 use Rattle.std.proofs.lemmas.List.{take_all}
 use Rattle.crn_fraction.proofs.Integers.{ring_ℤ, z-writes}
-use Rattle.crn_linear.specs.Rows.{dot}
+use Rattle.crn_linear.specs.Rows.{dot, IsSmall}
 
 more : (i : ℕ) (xs ys : List ℤ) → i < length xs → i < length ys → dot (take (suc i) xs) (take (suc i) ys) ≡ dot (take i xs) (take i ys) +ℤ get_or xs i (pos 0) *ℤ get_or ys i (pos 0)
 more i [] ys h k = absurd (omega arith)
@@ -23,6 +24,13 @@ dot_more i xs ys s p t e l f g h = h ∙ ap₂ (λ a b. a +ℤ b) f g ∙ sym (r
 -- all products
 pub dot_all : (i : ℕ) (xs ys : List ℤ) (s : ℤ) → length xs ≡ length ys → length xs ≤ i → s ≡ dot (take i xs) (take i ys) → s ≡ dot xs ys
 dot_all i xs ys s e l f = f ∙ ap₂ dot (take_all i xs l) (take_all i ys (omega (arith, e)))
+
+-- the product of two small numbers is so small
+pub product_small : (a b p : ℤ) → IsSmall a → IsSmall b → p ≡ a *ℤ b → unsigned_abs p ≤ 2 ^ 118
+product_small a b p h k e =
+    let size : unsigned_abs p ≡ unsigned_abs a * unsigned_abs b = ap unsigned_abs e ∙ unsigned_abs-mul a b in
+    let most = mul-le (unsigned_abs a) (unsigned_abs b) (2 ^ 59) (2 ^ 59) h.size k.size in
+    omega (arith, size, most)
 
 -- the sum of at most 256 products fits 128 bits
 pub sum_fits : (s p : ℤ) (i n : ℕ) → unsigned_abs s ≤ i * 2 ^ 118 → unsigned_abs p ≤ 2 ^ 118 → i < n → n ≤ 256 → to_z w128 (of_z w128 (s +ℤ to_z w128 (of_z w128 p))) ≡ s +ℤ p

@@ -2,22 +2,23 @@
 //! rows are exact.
 #![tactic(auto)]
 
-ghost use Rattle.std.specs.Prelude.{◌≡◌, ◌↔◌, ℕ, ◌+◌, ◌*◌, ◌<◌, ◌≤◌, ◌^◌, ℤ, pos, ◌+ℤ◌, ◌*ℤ◌, ◌<ℤ◌, unsigned_abs, List, length, slice_index_or, MatchOption};
+ghost use Rattle.std.specs.Prelude.{◌≡◌, ◌*◌, ◌<◌, ◌≤◌, ◌^◌, pos, ◌*ℤ◌, ◌<ℤ◌, unsigned_abs, length, slice_index_or, MatchOption};
 ghost use Rattle.std.specs.List.{All};
 ghost use Rattle.std.specs.Result.{OkIff};
 ghost use Rattle.std.specs.Ordering.{int_cmp};
 ghost use Rattle.crn_fraction.specs.Gcd.{gcd};
-ghost use Rattle.crn_fraction.specs.Rational.{ℚ, 0ℚ, ratio, ◌-ℚ◌, ◌/ℚ◌};
+ghost use Rattle.crn_fraction.specs.Rational.{ratio, ◌-ℚ◌, ◌/ℚ◌};
 ghost use Rattle.crn_linear.specs.Forms.{at, entry_of, minus, IsValueInReach};
-ghost use Rattle.crn_linear.specs.Rows.{dot, IsBelow, Meets, IsSmall, AreSmall, opposite_of};
-ghost use Rattle.crn_linear.specs.Cleared.{IsCleared, pivot, size_ℚ, common_den, unit_of, numerators, cleared, IsSmallFrac};
+ghost use Rattle.crn_linear.specs.Rows.{dot, IsSmall, AreSmall, opposite_of};
+ghost use Rattle.crn_linear.specs.Cleared.{pivot, size_ℚ, common_den, unit_of, numerators, cleared, IsSmallFrac};
 ghost use Rattle.crn_linear.specs.Views.{HasColumns, padded};
 ghost use Rattle.crn_linear.specs.Strengths.{is_strict, row_with};
-ghost use Rattle.crn_linear.specs.declared.Strength.{Strength};
 
 use crn_fraction::{Frac, TooBig};
 use std::cmp::Ordering;
 use std::marker::Model;
+
+pub mod laws;
 
 // The greatest size of an entry of a row or a point.
 const LIMIT: u128 = 1 << 59;
@@ -252,14 +253,6 @@ pub fn opposite(row: &Row, strength: Strength) -> Row
     }
 }
 
-/// What the cleared row of a form is: a positive multiple of the form, with no number but 1 that divides all of its entries
-/// unless they are all 0. No other row is so, and a point meets it where the form's value is at least 0, or above it.
-pub fn clearing()
-    ensures is { (form : List ℚ) → IsCleared form (cleared form) }
-    ensures only { (form : List ℚ) (row : List ℤ) → IsCleared form row → row ≡ cleared form }
-    ensures meets { (form x : List ℚ) (strength : Strength) → Meets (row_with (cleared form) strength) x ↔ IsBelow (is_strict strength) 0ℚ (at form x) }
-{}
-
 /// The row of a form: its positive multiple whose entries are whole with greatest common divisor 1, or the zero row. It is
 /// refused where an entry passes 2^59 in size.
 pub fn row_of(form: &Form, strength: Strength) -> Result<Row, TooBig>
@@ -376,7 +369,7 @@ fn cross(a: Frac, b: Frac) -> i128
     ensures value { result ≡ a.num *ℤ pos b.den }
     ensures small { unsigned_abs result < 2 ^ 126 }
 {
-    long_product(a.num(), b.den())
+    product(a.num(), b.den())
 }
 
 // The product of the denominators.
@@ -388,7 +381,7 @@ fn shared_den(a: Frac, b: Frac) -> u128
     a.den() as u128 * b.den() as u128
 }
 
-fn long_product(a: i64, b: i64) -> i128
+fn product(a: i64, b: i64) -> i128
     ensures value { result ≡ a *ℤ b }
     ensures small { unsigned_abs result ≤ 2 ^ 126 }
 {
@@ -524,15 +517,6 @@ fn short_gcd(a: u64, b: u64) -> u64
         y = rest;
     }
     x
-}
-
-fn product(a: i64, b: i64) -> i128
-    requires left { IsSmall a }
-    requires right { IsSmall b }
-    ensures value { result ≡ a *ℤ b }
-    ensures small { unsigned_abs result ≤ 2 ^ 118 }
-{
-    a as i128 * b as i128
 }
 
 // The entries with 0 past the last.

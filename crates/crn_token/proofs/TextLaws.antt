@@ -1,7 +1,7 @@
 -- The lines of a text, one after another.
 use Rattle.std.proofs.Common.{◌≡◌, ℕ, ◌+◌, ◌<◌, ◌≤◌, List, [], ◌∷◌, ◌++◌, length, drop, map, Option, Some, None, sym, refl, ap, ap₂, ◌∙◌, subst, arith, append_assoc, append-nil, drop-drop, length-drop, length-append, add-zero}
 use Rattle.std.proofs.lemmas.List.{map-append, take-append-drop}
-use Rattle.std.proofs.lemmas.List.Elements.{All-cons, All-nil}
+use Rattle.std.proofs.lemmas.List.Elements.{All-append, All-cons, All-nil}
 use Rattle.std.proofs.lemmas.Grind.{flat_map-append}
 use Rattle.std.specs.Prelude.{◌==◌, All, flat_map}
 use Rattle.std.specs.List.{before_first, position_or_len}
@@ -10,9 +10,10 @@ use Rattle.crn_token.specs.declared.Line.{Line}
 use Rattle.crn_token.specs.declared.Lines.{Lines}
 use Rattle.crn_token.specs.Lines.{Text, AreLinesOf, TokenLine, view, physical_lines, token_line, token_lines_from, tokens_from, without_comment}
 use Rattle.crn_token.specs.Plain.{PlainLine, plain_token, plain_line, kept_line, plain_lines, plain_lines_from, plain_from}
-use Rattle.crn_token.specs.Spans.{AreInOrder, ArePlaced, IsPlaced, line_tokens}
+use Rattle.crn_token.specs.Spans.{AreInOrder, ArePlaced, IsPlaced, IsSpelled, line_tokens}
 use Rattle.crn_token.proofs.Cut.{physical_step}
 use Rattle.crn_token.proofs.PlainLaws.{plains, plains-tokens}
+use Rattle.crn_token.proofs.SpelledLaws.{tokens_spelled}
 use Rattle.crn_token.proofs.SpanLaws.{tokens_in_order, tokens_placed, in_order_later}
 
 nil_cons : {A : Type 0} (x : A) (xs : List A) → [] ≡ x ∷ xs → ⊥
@@ -134,6 +135,27 @@ tokens_view (line ∷ lines) = ap (λ l. line_tokens line ++ l) (tokens_view lin
 pub text_in_order : (bytes : List ℕ) (lines : List Line) → map view lines ≡ token_lines_from 1 0 (physical_lines bytes) → AreInOrder 0 (length bytes) (flat_map line_tokens lines)
 text_in_order bytes lines is =
     subst (AreInOrder 0 (length bytes)) (sym (tokens_view lines ∙ ap (flat_map tokens_in) is)) (lines_in_order (physical_lines bytes) bytes 1 0 (length bytes) refl (omega arith))
+
+line_spelled : (whole : List ℕ) (number : ℕ) (o : Option (List Token)) → ((ts : List Token) → o ≡ Some ts → All (IsSpelled whole) ts) → All (IsSpelled whole) (flat_map tokens_in (token_line number o))
+line_spelled whole number None spelled = All-nil (IsSpelled whole)
+line_spelled whole number (Some []) spelled = All-nil (IsSpelled whole)
+line_spelled whole number (Some (t ∷ ts)) spelled = subst (All (IsSpelled whole)) (sym (append-nil (t ∷ ts))) (spelled (t ∷ ts) refl)
+
+lines_spelled : (whole : List ℕ) (lines : List (List ℕ)) (rest : List ℕ) (number at : ℕ) → physical_lines rest ≡ lines → drop at whole ≡ rest → All (IsSpelled whole) (flat_map tokens_in (token_lines_from number at lines))
+lines_spelled whole [] rest number at cut here = All-nil (IsSpelled whole)
+lines_spelled whole (line ∷ lines) rest number at cut here =
+    let front = line_here rest line (first_of rest line lines cut) in
+    let o = tokens_from number 0 at (without_comment line) in
+    rw (flat_map-append tokens_in (token_line number o) (token_lines_from (number + 1) (at + length line + 1) lines)) (
+    All-append (IsSpelled whole) (flat_map tokens_in (token_line number o)) (flat_map tokens_in (token_lines_from (number + 1) (at + length line + 1) lines))
+    (line_spelled whole number o (λ ts e. tokens_spelled whole number (without_comment line) 0 at front.0 ts (here ∙ front.1) e))
+    (lines_spelled whole lines (drop (length line + 1) rest) (number + 1) (at + length line + 1) (others_of rest line lines cut) (next_here whole rest line at here))
+    )
+
+-- each token of a text is what the bytes of its span spell
+pub text_spelled : (bytes : List ℕ) (lines : List Line) → map view lines ≡ token_lines_from 1 0 (physical_lines bytes) → All (IsSpelled bytes) (flat_map line_tokens lines)
+text_spelled bytes lines is =
+    subst (All (IsSpelled bytes)) (sym (tokens_view lines ∙ ap (flat_map tokens_in) is)) (lines_spelled bytes (physical_lines bytes) bytes 1 0 refl refl)
 
 -- each line's tokens are placed in it
 abbrev AllPlaced : ℕ → List TokenLine → Type 0
