@@ -1,3 +1,16 @@
+pub mod SignLaws
 pub mod Amounts
 pub mod FitTests
 pub mod MinimumFits
+pub mod Ascending
+pub mod Counts
+pub mod Products
+pub mod Refusals
+pub mod Steps
+pub mod Runs
+pub mod Marks
+pub mod Clearing
+pub mod Least
+pub mod SideWalk
+pub mod FlowWalk
+pub mod Applied

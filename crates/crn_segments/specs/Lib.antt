@@ -1,1 +1,7 @@
 pub mod Fits
+pub mod Signs
+pub mod Flows
+pub mod Step
+pub mod Steps
+pub mod Sums
+pub mod Progress

@@ -1,7 +1,23 @@
-//! What holds of steps and completions that fit. The function here does nothing: its contract is a theorem about the definitions of `specs/Fits.antt`.
-ghost use Rattle.crn_net.specs.Network.{start};
+//! What holds of steps and completions. Each function here does nothing: its contract is a theorem about the definitions of `specs/`.
+ghost use Rattle.std.specs.Prelude.{List, ◌↔◌, ◌≡◌, None};
+ghost use Rattle.crn_fraction.specs.Rational.{ℚ};
+ghost use Rattle.crn_net.specs.Network.{Network, IsNetwork, IsLegal, Run, start};
+ghost use Rattle.crn_net.specs.declared.Flow.{Flow};
 ghost use Rattle.crn_net.specs.Minimum.{minimum, amounts};
-ghost use Rattle.crn_segments.specs.Fits.{CompletionFits};
+ghost use Rattle.crn_segments.specs.Fits.{StepFits, CompletionFits};
+ghost use Rattle.crn_segments.specs.Flows.{IsSegment};
+ghost use Rattle.crn_segments.specs.Step.{step_refusal};
+ghost use Rattle.crn_segments.specs.Steps.{AreSegments, StepsGo, StepsFit};
+
+/// Nothing refuses a step exactly where its segment is legal and the step fits.
+pub fn legal_steps()
+    ensures { (net : Network) → IsNetwork net → (c : List ℚ) (u : List Flow) → IsSegment u → (step_refusal net c u ≡ None) ↔ (IsLegal net c u × StepFits net c u) }
+{}
+
+/// Steps one after another all answer `Ok` exactly where they are a run and each of them fits.
+pub fn steps_are_runs()
+    ensures { (net : Network) → IsNetwork net → (c : List ℚ) (us : List (List Flow)) (d : List ℚ) → AreSegments us → StepsGo net c us d ↔ (Run net c us d × StepsFit net c us) }
+{}
 
 /// The definitions on an example: the minimum of two variables, of which the first has 3/2 and 1/2 and the second 2 and 0. Its completion fits.
 pub fn completion_of_the_minimum()

@@ -1,0 +1,6 @@
+pub mod Numbers
+pub mod Lists
+pub mod Units
+pub mod Steps
+pub mod Multiples
+pub mod Firsts
