@@ -29,10 +29,11 @@ mark_untouched n zero = refl
 mark_untouched n (suc i) = untouched_at n i
 
 pub new_is_ready : (n : ℕ) (k : Sums) → k.marks.items ≡ replicate n Untouched → length k.next.items ≡ n → k.touched.items ≡ [] → n ≤ vec_capacity k.touched → IsReady n k
-new_is_ready n k marks next touched room =
-    (subst (λ ts. RoomOf n (vec_capacity k.touched) k.marks.items k.next.items ts) (sym touched)
+new_is_ready n k marks next touched room = (
+  subst (λ ts. RoomOf n (vec_capacity k.touched) k.marks.items k.next.items ts) (sym touched)
       (ready_room n (vec_capacity k.touched) k.marks.items k.next.items (ap length marks ∙ length-replicate n Untouched) next room (λ j. ap (λ ms. mark_of ms j) marks ∙ mark_untouched n j)),
-     touched)
+  touched,
+)
 
 -- ---- a step
 

@@ -54,16 +54,16 @@ pub record Settling (old : Sums) (c : List ℚ) (now : Sums) (d : List ℚ) : Ty
 pub settled : (ms : List Mark) (xs d : List ℚ) (s j : ℕ) → 1 ≤ s → s ≤ length ms → s ≤ length d → mark_of ms s ≡ Fits → sum_at ms xs d j ≡ sum_at (set ms (s - 1) Untouched) xs (set d (s - 1) (amount xs s)) j
 settled ms xs d s j low inside long e =
     ⊎_elim (λ (k : j ≡ s). subst (λ i. sum_at ms xs d i ≡ sum_at (set ms (s - 1) Untouched) xs (set d (s - 1) (amount xs s)) i) (sym k)
-        (ap (λ m. by_mark m (amount xs s) (amount d s)) e
-        ∙ sym (ap (λ m. by_mark m (amount xs s) (amount (set d (s - 1) (amount xs s)) s)) (mark_of-set_same ms s Untouched low inside) ∙ ap Some (amount-set_same d s (amount xs s) low long))))
+    (ap (λ m. by_mark m (amount xs s) (amount d s)) e
+    ∙ sym (ap (λ m. by_mark m (amount xs s) (amount (set d (s - 1) (amount xs s)) s)) (mark_of-set_same ms s Untouched low inside) ∙ ap Some (amount-set_same d s (amount xs s) low long))))
     (λ (k : j ≢ s). sym (ap₂ (λ m x. by_mark m (amount xs j) x) (mark_of-set_other ms s j Untouched low k) (amount-set_other d s j (amount xs s) low k)))
     (same_or_other j s)
 
 pub unsettled : (ms : List Mark) (xs d : List ℚ) (s j : ℕ) (b : ℚ) → 1 ≤ s → s ≤ length ms → mark_of ms s ≢ Fits → sum_at ms xs d s ≡ Some b → sum_at ms xs d j ≡ sum_at (set ms (s - 1) Untouched) xs d j
 unsettled ms xs d s j b low inside h some =
     ⊎_elim (λ (k : j ≡ s). subst (λ i. sum_at ms xs d i ≡ sum_at (set ms (s - 1) Untouched) xs d i) (sym k)
-        (ap (λ m. by_mark m (amount xs s) (amount d s)) (free_mark (mark_of ms s) (amount xs s) (amount d s) b h some)
-        ∙ sym (ap (λ m. by_mark m (amount xs s) (amount d s)) (mark_of-set_same ms s Untouched low inside))))
+    (ap (λ m. by_mark m (amount xs s) (amount d s)) (free_mark (mark_of ms s) (amount xs s) (amount d s) b h some)
+    ∙ sym (ap (λ m. by_mark m (amount xs s) (amount d s)) (mark_of-set_same ms s Untouched low inside))))
     (λ (k : j ≢ s). sym (ap (λ m. by_mark m (amount xs j) (amount d j)) (mark_of-set_other ms s j Untouched low k)))
     (same_or_other j s)
   where

@@ -42,8 +42,8 @@ rest_counts_found ps i s p l h here e =
     let side : Plain.AreParts e.low e.top (part_of p ∷ parts_of (drop (i + 1) ps)) = subst (λ xs. Plain.AreParts e.low e.top (parts_of xs)) d e.side in
     positive_natural p.count side.2
     ∙ ap pos (sym (e.same ∙ ap (λ xs. Plain.count_of (parts_of xs) s) d
-        ∙ subst (λ x. Plain.count_of (part_of p ∷ parts_of (drop (i + 1) ps)) x ≡ natural p.count) here
-            (count_of_same e.low e.top (part_of p) (parts_of (drop (i + 1) ps)) side)))
+    ∙ subst (λ x. Plain.count_of (part_of p ∷ parts_of (drop (i + 1) ps)) x ≡ natural p.count) here
+    (count_of_same e.low e.top (part_of p) (parts_of (drop (i + 1) ps)) side)))
 
 pub rest_counts_all : (ps : List Part) (i s : ℕ) → length ps ≤ i → RestCounts ps i s → pos 0 ≡ pos (Plain.count_of (parts_of ps) s)
 rest_counts_all ps i s l e = ap pos (sym (e.same ∙ ap (λ xs. Plain.count_of (parts_of xs) s) (drop_all i ps l)))

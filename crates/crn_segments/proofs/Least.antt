@@ -48,8 +48,8 @@ least_all n k i t ok all l = record {
   high = l.high;
   below = λ s low less. ⊎_elim (λ (m : mark_of k.marks.items s ≡ Untouched). ap (λ x. mark_refusal s x (amount k.next.items s)) m)
       (λ (m : Contains k.touched.items s).
-        let e : s ≡ get_or k.touched.items m.0 0 = get_or_read k.touched.items m.0 s m.1 (sym m.2) 0 in
-        subst (λ z. refusal_in k z ≡ None) (sym e) (l.below m.0 (omega (arith, m.1, all)) (subst (λ z. z < t) e less)))
+      let e : s ≡ get_or k.touched.items m.0 0 = get_or_read k.touched.items m.0 s m.1 (sym m.2) 0 in
+      subst (λ z. refusal_in k z ≡ None) (sym e) (l.below m.0 (omega (arith, m.1, all)) (subst (λ z. z < t) e less)))
       (ok.listed s);
   here = l.here;
 }

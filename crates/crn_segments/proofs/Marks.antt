@@ -88,8 +88,8 @@ module _ (n room : ℕ) (ms : List Mark) (xs : List ℚ) (ts : List ℕ) (ok : R
   pub touched_sums : (c : List ℚ) (j : ℕ) → mark_of ms s ≡ Untouched → sum_at (set ms (s - 1) Fits) (set xs (s - 1) (amount c s)) c j ≡ sum_at ms xs c j
   touched_sums c j e =
       ⊎_elim (λ (k : j ≡ s). subst (λ i. sum_at (set ms (s - 1) Fits) (set xs (s - 1) (amount c s)) c i ≡ sum_at ms xs c i) (sym k)
-          (ap (λ m. by_mark m (amount (set xs (s - 1) (amount c s)) s) (amount c s)) (mark_of-set_same ms s Fits low inside)
-          ∙ ap Some (amount-set_same xs s (amount c s) low inside_sums) ∙ ap (λ m. by_mark m (amount xs s) (amount c s)) (sym e)))
+      (ap (λ m. by_mark m (amount (set xs (s - 1) (amount c s)) s) (amount c s)) (mark_of-set_same ms s Fits low inside)
+      ∙ ap Some (amount-set_same xs s (amount c s) low inside_sums) ∙ ap (λ m. by_mark m (amount xs s) (amount c s)) (sym e)))
       (λ (k : j ≢ s). ap₂ (λ m x. by_mark m x (amount c j)) (mark_of-set_other ms s j Fits low k) (amount-set_other xs s j (amount c s) low k))
       (same_or_other j s)
 
@@ -126,16 +126,16 @@ module _ (n room : ℕ) (ms : List Mark) (xs : List ℚ) (ts : List ℕ) (ok : R
   pub fits_sums : (c : List ℚ) (p y : ℚ) (j : ℕ) → mark_of ms s ≡ Fits → sum_with p (Some (amount xs s)) ≡ Some y → sum_at ms (set xs (s - 1) y) c j ≡ sum_where (s == j) p (sum_at ms xs c j)
   fits_sums c p y j e h =
       ⊎_elim (λ (k : j ≡ s). subst (λ i. sum_at ms (set xs (s - 1) y) c i ≡ sum_where (s == i) p (sum_at ms xs c i)) (sym k)
-          (ap₂ (λ m x. by_mark m x (amount c s)) e (amount-set_same xs s y low inside_sums) ∙ sym h ∙ ap (λ m. sum_with p (by_mark m (amount xs s) (amount c s))) (sym e)
-          ∙ sym (where_same p (sum_at ms xs c s) s refl)))
+      (ap₂ (λ m x. by_mark m x (amount c s)) e (amount-set_same xs s y low inside_sums) ∙ sym h ∙ ap (λ m. sum_with p (by_mark m (amount xs s) (amount c s))) (sym e)
+      ∙ sym (where_same p (sum_at ms xs c s) s refl)))
       (λ (k : j ≢ s). ap (λ x. by_mark (mark_of ms j) x (amount c j)) (amount-set_other xs s j y low k) ∙ sym (where_other p (sum_at ms xs c j) j k))
       (same_or_other j s)
 
   pub too_big_sums : (c : List ℚ) (p : ℚ) (j : ℕ) → mark_of ms s ≡ Fits → sum_with p (Some (amount xs s)) ≡ None → sum_at (set ms (s - 1) TooBig) xs c j ≡ sum_where (s == j) p (sum_at ms xs c j)
   too_big_sums c p j e h =
       ⊎_elim (λ (k : j ≡ s). subst (λ i. sum_at (set ms (s - 1) TooBig) xs c i ≡ sum_where (s == i) p (sum_at ms xs c i)) (sym k)
-          (ap (λ m. by_mark m (amount xs s) (amount c s)) (mark_of-set_same ms s TooBig low inside) ∙ sym h ∙ ap (λ m. sum_with p (by_mark m (amount xs s) (amount c s))) (sym e)
-          ∙ sym (where_same p (sum_at ms xs c s) s refl)))
+      (ap (λ m. by_mark m (amount xs s) (amount c s)) (mark_of-set_same ms s TooBig low inside) ∙ sym h ∙ ap (λ m. sum_with p (by_mark m (amount xs s) (amount c s))) (sym e)
+      ∙ sym (where_same p (sum_at ms xs c s) s refl)))
       (λ (k : j ≢ s). ap (λ m. by_mark m (amount xs j) (amount c j)) (mark_of-set_other ms s j TooBig low k) ∙ sym (where_other p (sum_at ms xs c j) j k))
       (same_or_other j s)
 
@@ -148,7 +148,7 @@ module _ (n room : ℕ) (ms : List Mark) (xs : List ℚ) (ts : List ℕ) (ok : R
   still_sums c p j h k =
       let e : mark_of ms s ≡ TooBig = not_fits (mark_of ms s) h k in
       ⊎_elim (λ (l : j ≡ s). subst (λ i. sum_at ms xs c i ≡ sum_where (s == i) p (sum_at ms xs c i)) (sym l)
-          (ap (λ m. by_mark m (amount xs s) (amount c s)) e ∙ ap (λ m. sum_with p (by_mark m (amount xs s) (amount c s))) (sym e) ∙ sym (where_same p (sum_at ms xs c s) s refl)))
+      (ap (λ m. by_mark m (amount xs s) (amount c s)) e ∙ ap (λ m. sum_with p (by_mark m (amount xs s) (amount c s))) (sym e) ∙ sym (where_same p (sum_at ms xs c s) s refl)))
       (λ (l : j ≢ s). sym (where_other p (sum_at ms xs c j) j l))
       (same_or_other j s)
 
@@ -158,7 +158,7 @@ pub cleared_listed : (ms : List Mark) (s : ℕ) → 1 ≤ s → s ≤ length ms 
 cleared_listed ms s low inside ns h j =
     ⊎_elim (λ (k : j ≡ s). inl (subst (λ i. mark_of (set ms (s - 1) Untouched) i ≡ Untouched) (sym k) (mark_of-set_same ms s Untouched low inside)))
     (λ (k : j ≢ s). ⊎_elim (λ (m : mark_of ms j ≡ Untouched). inl (mark_of-set_other ms s j Untouched low k ∙ m))
-        (λ (m : Contains (ns ++ s ∷ []) j). ⊎_elim (λ (a : Contains ns j). inr a) (λ (a : Contains (s ∷ []) j). absurd (k (sym (contains_one s j a)))) (Contains-append_cases ns (s ∷ []) j m)) (h j))
+    (λ (m : Contains (ns ++ s ∷ []) j). ⊎_elim (λ (a : Contains ns j). inr a) (λ (a : Contains (s ∷ []) j). absurd (k (sym (contains_one s j a)))) (Contains-append_cases ns (s ∷ []) j m)) (h j))
     (same_or_other j s)
 
 -- ---- no mark is left

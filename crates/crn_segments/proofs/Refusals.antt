@@ -117,11 +117,11 @@ module _ (net : Network) (c : List ℚ) (u : List Flow) (next : List ℚ) (s : �
     left = here (Some x) h ∙ ap (λ b. option_or (if b then Some (TakesMore s) else None) (first_refusal (sum_of net c u) (s + 1) (net.species + 1 - (s + 1)))) t;
     sums = λ j l k. ⊎_elim
         (λ (same : j ≡ s). subst (λ q. (sum_of net c u q ≡ Some (amount (set next (s - 1) x) q)) × (0ℚ ≤ℚ amount (set next (s - 1) x) q)) (sym same)
-            (h ∙ ap Some (sym now), subst (λ y. 0ℚ ≤ℚ y) (sym now) (is_not_negative x t)))
+        (h ∙ ap Some (sym now), subst (λ y. 0ℚ ≤ℚ y) (sym now) (is_not_negative x t)))
         (λ (earlier : j < s).
-            let as_before : amount (set next (s - 1) x) j ≡ amount next j = amount-set_other next s j x low (omega arith) in
-            let was : (sum_of net c u j ≡ Some (amount next j)) × (0ℚ ≤ℚ amount next j) = e.sums j l earlier in
-            (was.0 ∙ ap Some (sym as_before), subst (λ y. 0ℚ ≤ℚ y) (sym as_before) was.1))
+        let as_before : amount (set next (s - 1) x) j ≡ amount next j = amount-set_other next s j x low (omega arith) in
+        let was : (sum_of net c u j ≡ Some (amount next j)) × (0ℚ ≤ℚ amount next j) = e.sums j l earlier in
+        (was.0 ∙ ap Some (sym as_before), subst (λ y. 0ℚ ≤ℚ y) (sym as_before) was.1))
         (grind arith);
     long = length-set next (s - 1) x ∙ e.long;
   }

@@ -68,8 +68,8 @@ module _ (n : ℕ) (ps : List Part) (seen : List Plain.Part) (r : Plain.Reaction
     room = w.room;
     same = λ s. so_far s ∙ ap (λ b. sum_where b (gained r u s) (sum_in now c s))
         (⊎_elim (λ (e : (read ps i).species ≡ s).
-            let there : 0 < count_of seen s = subst (λ x. 0 < count_of seen x) e some in
-            seen_here seen (part_of (read ps i) ∷ parts_of (drop (i + 1) ps)) s there ∙ sym (seen_here seen (parts_of (drop (i + 1) ps)) s there))
+        let there : 0 < count_of seen s = subst (λ x. 0 < count_of seen x) e some in
+        seen_here seen (part_of (read ps i) ∷ parts_of (drop (i + 1) ps)) s there ∙ sym (seen_here seen (parts_of (drop (i + 1) ps)) s there))
         (λ (e : (read ps i).species ≢ s). new_other seen (parts_of (drop (i + 1) ps)) (part_of (read ps i)) s e)
         (same_or_other (read ps i).species s));
     low = (read ps i).species;
@@ -81,14 +81,14 @@ module _ (n : ℕ) (ps : List Part) (seen : List Plain.Part) (r : Plain.Reaction
   walk_adds next none room adds = record {
     room = room;
     same = λ s. so_far s ∙ ⊎_elim (λ (e : (read ps i).species ≡ s).
-          subst (λ x. sum_where (is_new (part_of (read ps i) ∷ parts_of (drop (i + 1) ps)) seen x) (gained r u x) (sum_in now c x) ≡ sum_where (is_new (parts_of (drop (i + 1) ps)) seen x) (gained r u x) (sum_in next c x)) e
-            (ap (λ b. sum_where b (gained r u (read ps i).species) (sum_in now c (read ps i).species)) (new_here seen (parts_of (drop (i + 1) ps)) w.low n (part_of (read ps i)) side none)
-            ∙ sym (adds (read ps i).species ∙ ap (λ b. sum_where b (gained r u (read ps i).species) (sum_in now c (read ps i).species)) (test_same (read ps i).species (read ps i).species refl))
-            ∙ sym (ap (λ b. sum_where b (gained r u (read ps i).species) (sum_in next c (read ps i).species)) (gone_here seen (parts_of (drop (i + 1) ps)) n (part_of (read ps i)) side.3))))
+        subst (λ x. sum_where (is_new (part_of (read ps i) ∷ parts_of (drop (i + 1) ps)) seen x) (gained r u x) (sum_in now c x) ≡ sum_where (is_new (parts_of (drop (i + 1) ps)) seen x) (gained r u x) (sum_in next c x)) e
+        (ap (λ b. sum_where b (gained r u (read ps i).species) (sum_in now c (read ps i).species)) (new_here seen (parts_of (drop (i + 1) ps)) w.low n (part_of (read ps i)) side none)
+        ∙ sym (adds (read ps i).species ∙ ap (λ b. sum_where b (gained r u (read ps i).species) (sum_in now c (read ps i).species)) (test_same (read ps i).species (read ps i).species refl))
+        ∙ sym (ap (λ b. sum_where b (gained r u (read ps i).species) (sum_in next c (read ps i).species)) (gone_here seen (parts_of (drop (i + 1) ps)) n (part_of (read ps i)) side.3))))
         (λ (e : (read ps i).species ≢ s).
-          ap (λ b. sum_where b (gained r u s) (sum_in now c s)) (new_other seen (parts_of (drop (i + 1) ps)) (part_of (read ps i)) s e)
-          ∙ ap (sum_where (is_new (parts_of (drop (i + 1) ps)) seen s) (gained r u s))
-            (sym (adds s ∙ ap (λ b. sum_where b (gained r u (read ps i).species) (sum_in now c s)) (test_other (read ps i).species s e))))
+        ap (λ b. sum_where b (gained r u s) (sum_in now c s)) (new_other seen (parts_of (drop (i + 1) ps)) (part_of (read ps i)) s e)
+        ∙ ap (sum_where (is_new (parts_of (drop (i + 1) ps)) seen s) (gained r u s))
+        (sym (adds s ∙ ap (λ b. sum_where b (gained r u (read ps i).species) (sum_in now c s)) (test_other (read ps i).species s e))))
         (same_or_other (read ps i).species s);
     low = (read ps i).species;
     side = side.3;

@@ -58,9 +58,9 @@ flow_none : (net : Network) (c : List ℚ) (f : Flow) → flow_refusal net c f �
 flow_none net c f h =
     let either : Bool → Option StepError = λ b. if b then Some (NoReaction f.reaction) else option_map (λ s. NotPresent f.reaction s) (first_absent (amount c) (numbered net.reactions f.reaction).takes) in
     ⊎_elim (λ (k : (nat_lt (length net.reactions) f.reaction ≡ true) × (length net.reactions < f.reaction)).
-        let e : Some (NoReaction f.reaction) ≡ None = sym (ap either k.0) ∙ h in absurd (cc e))
-      (λ (k : (nat_lt (length net.reactions) f.reaction ≡ false) × (f.reaction ≤ length net.reactions)). (k.1, map_none _ _ (sym (ap either k.0) ∙ h)))
-      (above_or_not (length net.reactions) f.reaction)
+    let e : Some (NoReaction f.reaction) ≡ None = sym (ap either k.0) ∙ h in absurd (cc e))
+    (λ (k : (nat_lt (length net.reactions) f.reaction ≡ false) × (f.reaction ≤ length net.reactions)). (k.1, map_none _ _ (sym (ap either k.0) ∙ h)))
+    (above_or_not (length net.reactions) f.reaction)
 
 pub flows_exist : (net : Network) (c : List ℚ) (low : ℕ) (u : List Flow) → AreAscending low u → flows_refusal net c u ≡ None → AreFlows (length net.reactions) u
 flows_exist net c low [] h k = tt
@@ -77,11 +77,11 @@ present_all m [] s h k = absurd (omega arith)
 present_all m (p ∷ ps) s h k =
     let either : Bool → Option ℕ = λ b. if b then first_absent m ps else Some p.species in
     ⊎_elim (λ (t : (is_positive_ℚ (m p.species) ≡ true) × (0ℚ <ℚ m p.species)).
-        ⊎_elim (λ (e : p.species ≡ s). subst (λ x. 0ℚ <ℚ m x) e t.1)
-          (λ (e : p.species ≢ s). present_all m ps s (sym (ap either t.0) ∙ h) (subst (λ x. 0 < x) (count_of_other p ps s e) k))
-          (same_or_other p.species s))
-      (λ (t : (is_positive_ℚ (m p.species) ≡ false) × (m p.species ≤ℚ 0ℚ)). let e : Some p.species ≡ None = sym (ap either t.0) ∙ h in absurd (cc e))
-      (is_positive_ℚ_cases (m p.species))
+    ⊎_elim (λ (e : p.species ≡ s). subst (λ x. 0ℚ <ℚ m x) e t.1)
+    (λ (e : p.species ≢ s). present_all m ps s (sym (ap either t.0) ∙ h) (subst (λ x. 0 < x) (count_of_other p ps s e) k))
+    (same_or_other p.species s))
+    (λ (t : (is_positive_ℚ (m p.species) ≡ false) × (m p.species ≤ℚ 0ℚ)). let e : Some p.species ≡ None = sym (ap either t.0) ∙ h in absurd (cc e))
+    (is_positive_ℚ_cases (m p.species))
 
 flux_same : (f : Flow) (fs : List Flow) → flux_of (f ∷ fs) f.reaction ≡ f.flux +ℚ flux_of fs f.reaction
 flux_same f fs = ap (λ b. (if b then f.flux else 0ℚ) +ℚ flux_of fs f.reaction) same
@@ -101,8 +101,8 @@ all_applicable net c [] h r k s t = absurd (not_<ℚ _ _ (≤ℚ_refl 0ℚ) k)
 all_applicable net c (f ∷ fs) h r k s t =
     let n = or_none (flow_refusal net c f) (flows_refusal net c fs) h in
     ⊎_elim (λ (e : f.reaction ≡ r). present_all (amount c) (numbered net.reactions f.reaction).takes s (flow_none net c f n.0).1 (subst (λ q. 0 < count_of (numbered net.reactions q).takes s) (sym e) t))
-      (λ (e : f.reaction ≢ r). all_applicable net c fs n.1 r (subst (λ x. 0ℚ <ℚ x) (flux_other f fs r e) k) s t)
-      (same_or_other f.reaction r)
+    (λ (e : f.reaction ≢ r). all_applicable net c fs n.1 r (subst (λ x. 0ℚ <ℚ x) (flux_other f fs r e) k) s t)
+    (same_or_other f.reaction r)
 
 -- the other way round
 
@@ -130,12 +130,12 @@ flows_none net ok c low [] a h k = refl
 flows_none net ok c low (f ∷ fs) a h k =
     let there : 0ℚ <ℚ flux_of (f ∷ fs) f.reaction = subst (λ x. 0ℚ <ℚ x) (sym (flux_same f fs)) (more_left _ _ a.1 (flux_not_negative (length net.reactions) fs f.reaction h.3)) in
     let this : first_absent (amount c) (numbered net.reactions f.reaction).takes ≡ None =
-          none_absent 0 net.species (amount c) (numbered net.reactions f.reaction).takes (ok.reactions f.reaction h.0 h.1).takes (λ s t. k f.reaction there s t) in
+    none_absent 0 net.species (amount c) (numbered net.reactions f.reaction).takes (ok.reactions f.reaction h.0 h.1).takes (λ s t. k f.reaction there s t) in
     let first : flow_refusal net c f ≡ None =
-          ap (λ b. if b then Some (NoReaction f.reaction) else option_map (λ s. NotPresent f.reaction s) (first_absent (amount c) (numbered net.reactions f.reaction).takes)) (test_not_above _ _ h.1)
-          ∙ ap (λ o. option_map (λ s. NotPresent f.reaction s) o) this in
+    ap (λ b. if b then Some (NoReaction f.reaction) else option_map (λ s. NotPresent f.reaction s) (first_absent (amount c) (numbered net.reactions f.reaction).takes)) (test_not_above _ _ h.1)
+    ∙ ap (λ o. option_map (λ s. NotPresent f.reaction s) o) this in
     ap₂ option_or first (flows_none net ok c f.reaction fs a.2 h.3
-        (λ r p. k r (more_right _ _ (flux_if (f.reaction == r) f.flux h.2) p)))
+    (λ r p. k r (more_right _ _ (flux_if (f.reaction == r) f.flux h.2) p)))
 
 -- ---- sums
 
@@ -145,12 +145,12 @@ sum_is k a b (f ∷ fs) h =
     let p : ℚ = k f.reaction *ℚ f.flux in
     let both : Bool → Bool → Option ℚ = λ x y. if x && y then fitting_sum k (a +ℚ p) fs else None in
     ⊎_elim (λ (x : (is_frac p ≡ true) × IsFrac p).
-        ⊎_elim (λ (y : (is_frac (a +ℚ p) ≡ true) × IsFrac (a +ℚ p)).
-            let rest = sum_is k (a +ℚ p) b fs (sym (ap₂ both x.0 y.0) ∙ h) in (rest.0, (x.1, y.1, rest.1)))
-          (λ (y : (is_frac (a +ℚ p) ≡ false) × (IsFrac (a +ℚ p) → ⊥)). let e : None ≡ Some b = sym (ap₂ both x.0 y.0) ∙ h in absurd (cc e))
-          (is_frac_cases (a +ℚ p)))
-      (λ (x : (is_frac p ≡ false) × (IsFrac p → ⊥)). let e : None ≡ Some b = sym (ap (λ z. both z (is_frac (a +ℚ p))) x.0) ∙ h in absurd (cc e))
-      (is_frac_cases p)
+    ⊎_elim (λ (y : (is_frac (a +ℚ p) ≡ true) × IsFrac (a +ℚ p)).
+    let rest = sum_is k (a +ℚ p) b fs (sym (ap₂ both x.0 y.0) ∙ h) in (rest.0, (x.1, y.1, rest.1)))
+    (λ (y : (is_frac (a +ℚ p) ≡ false) × (IsFrac (a +ℚ p) → ⊥)). let e : None ≡ Some b = sym (ap₂ both x.0 y.0) ∙ h in absurd (cc e))
+    (is_frac_cases (a +ℚ p)))
+    (λ (x : (is_frac p ≡ false) × (IsFrac p → ⊥)). let e : None ≡ Some b = sym (ap (λ z. both z (is_frac (a +ℚ p))) x.0) ∙ h in absurd (cc e))
+    (is_frac_cases p)
 
 pub sum_fits : (k : ℕ → ℚ) (a : ℚ) (u : List Flow) → SumFits k a u → fitting_sum k a u ≡ Some (added a k u)
 sum_fits k a [] h = refl
@@ -219,17 +219,18 @@ inside_or_not s n = grind arith
 
 pub went_legal : (net : Network) (c next : List ℚ) (u : List Flow) → IsSegment u → flows_refusal net c u ≡ None → AreSums net c u (net.species + 1) next → IsLegal net c u × StepFits net c u
 went_legal net c next u seg none sums =
-    let flows : AreFlows (length net.reactions) u = flows_exist net c 0 u seg.ascending none in
-    (record {
+    let flows : AreFlows (length net.reactions) u = flows_exist net c 0 u seg.ascending none in (
+      record {
         flows = flows;
         applicable = all_applicable net c u none;
         enough = λ s. ⊎_elim
             (λ (h : (1 ≤ s) × (s ≤ net.species)).
-                subst (λ x. 0ℚ ≤ℚ x) (sym (sum_is_after net c u s _ flows h.0 h.1 (sums s h.0 (omega arith)).0).0) (sums s h.0 (omega arith)).1)
+            subst (λ x. 0ℚ ≤ℚ x) (sym (sum_is_after net c u s _ flows h.0 h.1 (sums s h.0 (omega arith)).0).0) (sums s h.0 (omega arith)).1)
             (λ (h : ((1 ≤ s) × (s ≤ net.species)) → ⊥). subst (λ x. 0ℚ ≤ℚ x) (sym (amount-outside net c u s h)) (≤ℚ_refl 0ℚ))
             (inside_or_not s net.species);
       },
-     λ s low high. (sum_is_after net c u s _ flows low high (sums s low (omega arith)).0).1)
+      λ s low high. (sum_is_after net c u s _ flows low high (sums s low (omega arith)).0).1,
+    )
 
 -- ---- as a replay shows it
 
@@ -251,7 +252,7 @@ module _ (p : Progress) (net : Network) (c : List ℚ) (same : record { network 
   shown_after next flows long sums =
       let made : Progress = record { network = net; state = next } in
       subst (λ (q : Progress). made ≡ record q { state = after q.network q.state u }) same
-        (ap (λ d. let made : Progress = record { network = net; state = d } in made) (sums_are_after net c next u flows long sums))
+      (ap (λ d. let made : Progress = record { network = net; state = d } in made) (sums_are_after net c next u flows long sums))
 
 -- what a vector holds after a slice of it was written
 pub written_back : (n : ℕ) (xs ys : List ℚ) → length ys ≡ length xs → length xs ≡ n → take n (ys ++ drop (length ys) xs) ≡ ys

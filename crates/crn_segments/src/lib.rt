@@ -22,8 +22,8 @@ pub use crn_net::Flow;
 use crn_net::Network;
 use std::alloc::{AllocError, Global};
 use std::marker::Model;
-use work::Sums;
 use thiserror::Error;
+use work::Sums;
 
 pub mod laws;
 mod work;

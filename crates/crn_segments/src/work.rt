@@ -84,7 +84,14 @@ impl Sums {
     }
 
     // Adds what a flow of the reaction changes of each species of the parts that is not among those seen.
-    fn add_side(&mut self, parts: &[Part], seen: &[Part], reaction: &Reaction, flux: Frac, state: &State)
+    fn add_side(
+        &mut self,
+        parts: &[Part],
+        seen: &[Part],
+        reaction: &Reaction,
+        flux: Frac,
+        state: &State,
+    )
         requires parts { AreParts 0 (length state.now) (parts_of parts.now) }
         requires seen { IsSide (parts_of seen.now) }
         requires reaction { (n : ℕ) × IsReaction n (reaction_of reaction.now) }

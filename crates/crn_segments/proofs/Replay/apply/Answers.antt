@@ -13,13 +13,16 @@ pub returns-in_err-check_flows-clause-cause : goal.returns-in_err-check_flows-cl
 returns-in_err-check_flows-clause-cause c =
     let p = err_from_is_err_and c.from_residual.result c.from_residual.ensures.1 in
     rw (p.1, p.2) (shown_refusal c.args.self.now c.self.inside.network.now c.self.inside.state c.self.view_is c.args.flows.now _
-      (refused_flows c.self.inside.network.now c.self.inside.state c.args.flows.now _ c.in_err-check_flows.ensures))
+    (refused_flows c.self.inside.network.now c.self.inside.state c.args.flows.now _ c.in_err-check_flows.ensures))
 
 pub returns-in_err-check_flows-clause-legal : goal.returns-in_err-check_flows-clause-legal
 returns-in_err-check_flows-clause-legal c =
     let p = err_from_is_err_and c.from_residual.result c.from_residual.ensures.1 in
-    rw p.1 (λ h. absurd (cc h), λ k. absurd (shown_not_legal c.args.self.now c.self.inside.network.now c.self.inside.state c.self.view_is c.args.flows.now c.self.invariant.valid c.requires _
-      (refused_flows c.self.inside.network.now c.self.inside.state c.args.flows.now _ c.in_err-check_flows.ensures) k))
+    rw p.1 (
+      λ h. absurd (cc h),
+      λ k. absurd (shown_not_legal c.args.self.now c.self.inside.network.now c.self.inside.state c.self.view_is c.args.flows.now c.self.invariant.valid c.requires _
+          (refused_flows c.self.inside.network.now c.self.inside.state c.args.flows.now _ c.in_err-check_flows.ensures) k),
+    )
 
 exist : (c : In_ok-check_flows) → AreFlows (length c.self.inside.network.now.reactions) c.args.flows.now
 exist c = flows_exist c.self.inside.network.now c.self.inside.state 0 c.args.flows.now c.requires.ascending c.in_ok-check_flows.ensures
@@ -30,17 +33,17 @@ add_flows-requires-clause-exist c = exist (goal.at.add_flows-requires-clause-exi
 going_on : (c : In-Ok) → sums_refusal c.self.inside.network.now c.self.inside.state c.args.flows.now ≡ None
 going_on c =
     refused_as c.self.inside.network.now c.self.inside.state c.args.flows.now c.self.invariant.state c.self.inside.sums c.add_flows.new.self c.self.invariant.ready c.add_flows.ensures.sums None
-      (λ d nn. subst (λ n. first_refusal (sum_in c.add_flows.new.self d) 1 n ≡ None) c.species.ensures.value (c.in-Ok.ensures d nn))
+    (λ d nn. subst (λ n. first_refusal (sum_in c.add_flows.new.self d) 1 n ≡ None) c.species.ensures.value (c.in-Ok.ensures d nn))
 
 stopped : (c : In-Err) → sums_refusal c.self.inside.network.now c.self.inside.state c.args.flows.now ≡ Some c.in-Err.error
 stopped c =
     refused_as c.self.inside.network.now c.self.inside.state c.args.flows.now c.self.invariant.state c.self.inside.sums c.add_flows.new.self c.self.invariant.ready c.add_flows.ensures.sums (Some c.in-Err.error)
-      (λ d nn. subst (λ n. first_refusal (sum_in c.add_flows.new.self d) 1 n ≡ Some c.in-Err.error) c.species.ensures.value (c.in-Err.ensures d nn))
+    (λ d nn. subst (λ n. first_refusal (sum_in c.add_flows.new.self d) 1 n ≡ Some c.in-Err.error) c.species.ensures.value (c.in-Err.ensures d nn))
 
 pub settle-requires-clause-sums : goal.settle-requires-clause-sums
 settle-requires-clause-sums c =
     going c.self.inside.network.now c.self.inside.state c.args.flows.now c.self.invariant.state c.self.inside.sums c.add_flows.new.self c.self.invariant.ready c.add_flows.ensures.sums
-      (going_on (goal.at.settle-requires-clause-sums c).In-Ok)
+    (going_on (goal.at.settle-requires-clause-sums c).In-Ok)
 
 sums : (c : After-settle) → sums_refusal c.self.inside.network.now c.self.inside.state c.args.flows.now ≡ None → AreSums c.self.inside.network.now c.self.inside.state c.args.flows.now (c.self.inside.network.now.species + 1) c.settle.new.state
 sums c h =
@@ -66,26 +69,30 @@ invariant_of-self c =
 pub returns-in-Ok-clause-cause : goal.returns-in-Ok-clause-cause
 returns-in-Ok-clause-cause c =
     shown_refusal c.args.self.now c.self.inside.network.now c.self.inside.state c.self.view_is c.args.flows.now None
-      (refused_sums c.self.inside.network.now c.self.inside.state c.args.flows.now None c.in_ok-check_flows.ensures (going_on (goal.at.returns-in-Ok-clause-cause c).In-Ok))
+    (refused_sums c.self.inside.network.now c.self.inside.state c.args.flows.now None c.in_ok-check_flows.ensures (going_on (goal.at.returns-in-Ok-clause-cause c).In-Ok))
 
 pub returns-in-Ok-clause-legal : goal.returns-in-Ok-clause-legal
 returns-in-Ok-clause-legal c =
-    let at = goal.at.returns-in-Ok-clause-legal c in
-    (λ _. shown_legal c.args.self.now c.self.inside.network.now c.self.inside.state c.self.view_is c.args.flows.now
-      (went_legal c.self.inside.network.now c.self.inside.state c.settle.new.state c.args.flows.now c.requires c.in_ok-check_flows.ensures (sums at.After-settle (going_on at.In-Ok))), λ _. refl)
+    let at = goal.at.returns-in-Ok-clause-legal c in (
+      λ _. shown_legal c.args.self.now c.self.inside.network.now c.self.inside.state c.self.view_is c.args.flows.now
+          (went_legal c.self.inside.network.now c.self.inside.state c.settle.new.state c.args.flows.now c.requires c.in_ok-check_flows.ensures (sums at.After-settle (going_on at.In-Ok))),
+      λ _. refl,
+    )
 
 pub returns-in-Ok-clause-after : goal.returns-in-Ok-clause-after
 returns-in-Ok-clause-after c =
     let at = goal.at.returns-in-Ok-clause-after c in
     shown_after c.args.self.now c.self.inside.network.now c.self.inside.state c.self.view_is c.args.flows.now c.settle.new.state (exist at.In_ok-check_flows)
-      (c.settle.ensures.long ∙ c.self.invariant.state.long) (sums at.After-settle (going_on at.In-Ok))
+    (c.settle.ensures.long ∙ c.self.invariant.state.long) (sums at.After-settle (going_on at.In-Ok))
 
 pub returns-in-Err-clause-cause : goal.returns-in-Err-clause-cause
 returns-in-Err-clause-cause c =
     shown_refusal c.args.self.now c.self.inside.network.now c.self.inside.state c.self.view_is c.args.flows.now (Some c.in-Err.error)
-      (refused_sums c.self.inside.network.now c.self.inside.state c.args.flows.now (Some c.in-Err.error) c.in_ok-check_flows.ensures (stopped (goal.at.returns-in-Err-clause-cause c).In-Err))
+    (refused_sums c.self.inside.network.now c.self.inside.state c.args.flows.now (Some c.in-Err.error) c.in_ok-check_flows.ensures (stopped (goal.at.returns-in-Err-clause-cause c).In-Err))
 
 pub returns-in-Err-clause-legal : goal.returns-in-Err-clause-legal
-returns-in-Err-clause-legal c =
-    (λ h. absurd (cc h), λ k. absurd (shown_not_legal c.args.self.now c.self.inside.network.now c.self.inside.state c.self.view_is c.args.flows.now c.self.invariant.valid c.requires c.in-Err.error
-      (refused_sums c.self.inside.network.now c.self.inside.state c.args.flows.now (Some c.in-Err.error) c.in_ok-check_flows.ensures (stopped (goal.at.returns-in-Err-clause-legal c).In-Err)) k))
+returns-in-Err-clause-legal c = (
+  λ h. absurd (cc h),
+  λ k. absurd (shown_not_legal c.args.self.now c.self.inside.network.now c.self.inside.state c.self.view_is c.args.flows.now c.self.invariant.valid c.requires c.in-Err.error
+      (refused_sums c.self.inside.network.now c.self.inside.state c.args.flows.now (Some c.in-Err.error) c.in_ok-check_flows.ensures (stopped (goal.at.returns-in-Err-clause-legal c).In-Err)) k),
+)

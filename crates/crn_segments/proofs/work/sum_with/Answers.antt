@@ -23,7 +23,7 @@ returns-in_default-add c =
     let p = c.args.flux *ℚ whole c.args.gain in
     let e = same_product (goal.at.returns-in_default-add c).After-times in
     sym (ap₂ (λ x y. if x && y then Some (c.args.sum +ℚ p) else None) (frac_is p (subst IsFrac e c.in-Ok.ensures.0))
-      (not_frac_is (c.args.sum +ℚ p) (subst (λ q. IsFrac (c.args.sum +ℚ q) → ⊥) (c.in-Ok.ensures.1 ∙ e) c.in_default-add.ensures)))
+    (not_frac_is (c.args.sum +ℚ p) (subst (λ q. IsFrac (c.args.sum +ℚ q) → ⊥) (c.in-Ok.ensures.1 ∙ e) c.in_default-add.ensures)))
 
 pub returns : goal.returns
 returns c =
@@ -31,4 +31,4 @@ returns c =
     let e = same_product (goal.at.returns c).After-times in
     let both = c.in-Ok-add.ensures.1 ∙ ap (λ q. c.args.sum +ℚ q) (c.in-Ok.ensures.1 ∙ e) in
     ap Some both ∙ sym (ap₂ (λ x y. if x && y then Some (c.args.sum +ℚ p) else None) (frac_is p (subst IsFrac e c.in-Ok.ensures.0))
-      (frac_is (c.args.sum +ℚ p) (subst IsFrac both (subst IsFrac (sym c.in-Ok-add.ensures.1) c.in-Ok-add.ensures.0))))
+    (frac_is (c.args.sum +ℚ p) (subst IsFrac both (subst IsFrac (sym c.in-Ok-add.ensures.1) c.in-Ok-add.ensures.0))))

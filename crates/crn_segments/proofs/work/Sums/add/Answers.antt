@@ -26,18 +26,18 @@ returns-in-Some-clause-sums c =
     let at = goal.at.returns-in-Some-clause-sums c in
     let p = c.args.flux *ℚ whole c.args.gain in
     λ j. fits_sums (length c.args.state.now) (vec_capacity c.touch.new.self.touched) c.touch.new.self.marks.items c.touch.new.self.next.items c.touch.new.self.touched.items c.touch.ensures.room c.args.species c.requires.low c.requires.high
-      c.args.state.now p c.in-Some.sum j (fits at.In-Fits) (ap₂ (λ k x. sum_with (c.args.flux *ℚ whole k) (Some x)) (sym (same_gain at.After-sum_with)) (sym (sum at.After-sum_with)) ∙ sym c.in-Some.ensures)
+    c.args.state.now p c.in-Some.sum j (fits at.In-Fits) (ap₂ (λ k x. sum_with (c.args.flux *ℚ whole k) (Some x)) (sym (same_gain at.After-sum_with)) (sym (sum at.After-sum_with)) ∙ sym c.in-Some.ensures)
     ∙ ap (λ o. sum_where (c.args.species == j) p o) (c.touch.ensures.same j)
 
 pub returns-in-None-clause-room : goal.returns-in-None-clause-room
 returns-in-None-clause-room c =
     too_big_room (length c.args.state.now) (vec_capacity c.touch.new.self.touched) c.touch.new.self.marks.items c.touch.new.self.next.items c.touch.new.self.touched.items c.touch.ensures.room c.args.species c.requires.low c.requires.high
-      (fits (goal.at.returns-in-None-clause-room c).In-Fits)
+    (fits (goal.at.returns-in-None-clause-room c).In-Fits)
 
 pub returns-in-None-clause-sums : goal.returns-in-None-clause-sums
 returns-in-None-clause-sums c =
     let at = goal.at.returns-in-None-clause-sums c in
     let p = c.args.flux *ℚ whole c.args.gain in
     λ j. too_big_sums (length c.args.state.now) (vec_capacity c.touch.new.self.touched) c.touch.new.self.marks.items c.touch.new.self.next.items c.touch.new.self.touched.items c.touch.ensures.room c.args.species c.requires.low c.requires.high
-      c.args.state.now p j (fits at.In-Fits) (ap₂ (λ k x. sum_with (c.args.flux *ℚ whole k) (Some x)) (sym (same_gain at.After-sum_with)) (sym (sum at.After-sum_with)) ∙ sym c.in-None.ensures)
+    c.args.state.now p j (fits at.In-Fits) (ap₂ (λ k x. sum_with (c.args.flux *ℚ whole k) (Some x)) (sym (same_gain at.After-sum_with)) (sym (sum at.After-sum_with)) ∙ sym c.in-None.ensures)
     ∙ ap (λ o. sum_where (c.args.species == j) p o) (c.touch.ensures.same j)

@@ -12,4 +12,4 @@ add_flow-requires-clause-high c = (flow_exists (length c.args.network.now.reacti
 pub loop-flow-preserved : goal.loop-flow-preserved
 loop-flow-preserved c =
     flow_walks c.args.network.now c.args.state.now c.args.flows.now c.args.self.now c.loop-flow.self c.add_flow.new.self c.loop-flow.flow-index c.flow-item.result c.loop-flow-test.true c.flow-item.is c.loop-flow.invariant
-      c.add_flow.ensures.room c.add_flow.ensures.sums
+    c.add_flow.ensures.room c.add_flow.ensures.sums

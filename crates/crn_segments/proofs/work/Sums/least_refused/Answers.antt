@@ -11,4 +11,4 @@ refusal_of-requires-clause-low c =
 pub returns : goal.returns
 returns c =
     least_all c.args.count c.args.self.now c.loop-species.species-index c.loop-species.least c.requires.room
-      (subst (λ xs. length xs ≤ c.loop-species.species-index) c.deref-species-items.ensures.value c.loop-species-test.false) c.loop-species.invariant
+    (subst (λ xs. length xs ≤ c.loop-species.species-index) c.deref-species-items.ensures.value c.loop-species-test.false) c.loop-species.invariant

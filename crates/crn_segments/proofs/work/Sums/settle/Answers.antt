@@ -44,17 +44,17 @@ set-requires-clause-not_negative c =
     let at = goal.at.set-requires-clause-not_negative c in
     let r = range at.In-Some in
     let read : c.index-in-Fits.result.now ≡ amount c.loop-species.self.next.items c.in-Some.species =
-        amount_read c.loop-species.self.next.items c.index-in-Fits.result.now c.in-Some.species r.0 (omega (arith, r.1, c.loop-species.invariant.clearing.sums)) c.index-in-Fits.ensures in
+    amount_read c.loop-species.self.next.items c.index-in-Fits.result.now c.in-Some.species r.0 (omega (arith, r.1, c.loop-species.invariant.clearing.sums)) c.index-in-Fits.ensures in
     subst (λ x. 0ℚ ≤ℚ x) (sym read)
-      (sum_not_negative c.args.self.now c.args.state.now c.loop-species.self c.loop-species.state c.pop.new.self.items c.in-Some.species c.loop-species.invariant c.in-Some.ensures.items
-        (sym (mark at.After-index r.0 r.1) ∙ c.in-Fits.is) (c.requires.sums c.in-Some.species r.0 r.1))
+    (sum_not_negative c.args.self.now c.args.state.now c.loop-species.self c.loop-species.state c.pop.new.self.items c.in-Some.species c.loop-species.invariant c.in-Some.ensures.items
+    (sym (mark at.After-index r.0 r.1) ∙ c.in-Fits.is) (c.requires.sums c.in-Some.species r.0 r.1))
 
 pub index_mut-requires : goal.index_mut-requires
 index_mut-requires c =
     let r = range (goal.at.index_mut-requires c).In-Some in
     elim c.match-index.branch [
-      in-Fits w ↦ rw w.self-is (omega (arith, r.0, r.1, c.loop-species.invariant.clearing.marks, c.loop-species.self.marks.ok.0))
-    | in_default-index w ↦ rw w.self-is (omega (arith, r.0, r.1, c.loop-species.invariant.clearing.marks, c.loop-species.self.marks.ok.0))
+      | in-Fits w ↦ rw w.self-is (omega (arith, r.0, r.1, c.loop-species.invariant.clearing.marks, c.loop-species.self.marks.ok.0))
+      | in_default-index w ↦ rw w.self-is (omega (arith, r.0, r.1, c.loop-species.invariant.clearing.marks, c.loop-species.self.marks.ok.0))
     ]
 
 pub loop-species-preserved : goal.loop-species-preserved
@@ -63,26 +63,26 @@ loop-species-preserved c =
     let r = range at.In-Some in
     let s = c.in-Some.species in
     elim c.match-index.branch [
-      in-Fits w ↦
-        let read : w.index-in-Fits.result.now ≡ amount c.loop-species.self.next.items s = amount_read c.loop-species.self.next.items w.index-in-Fits.result.now s r.0 (omega (arith, r.1, c.loop-species.invariant.clearing.sums)) w.index-in-Fits.ensures in
-        rw (w.self-is, w.state-is, w.set.ensures) (record {
-          clearing = subst (λ room. ClearingOf (length c.args.state.now) room (set c.loop-species.self.marks.items (s - 1) Untouched) c.loop-species.self.next.items c.pop.new.self.items) (sym c.pop.ensures.capacity)
-              (settle_clears c.args.self.now c.args.state.now c.loop-species.self c.loop-species.state c.pop.new.self.items s c.loop-species.invariant c.in-Some.ensures.items);
-          long = settle_long c.args.self.now c.args.state.now c.loop-species.self c.loop-species.state c.pop.new.self.items s c.loop-species.invariant c.in-Some.ensures.items w.index-in-Fits.result.now;
-          same = settle_fits c.args.self.now c.args.state.now c.loop-species.self c.loop-species.state c.pop.new.self.items s c.loop-species.invariant c.in-Some.ensures.items w.index-in-Fits.result.now (sym (mark at.After-index r.0 r.1) ∙ w.in-Fits.is) read;
-        })
-    | in_default-index w ↦
-        rw (w.self-is, w.state-is) (record {
-          clearing = subst (λ room. ClearingOf (length c.args.state.now) room (set c.loop-species.self.marks.items (s - 1) Untouched) c.loop-species.self.next.items c.pop.new.self.items) (sym c.pop.ensures.capacity)
-              (settle_clears c.args.self.now c.args.state.now c.loop-species.self c.loop-species.state c.pop.new.self.items s c.loop-species.invariant c.in-Some.ensures.items);
-          long = c.loop-species.invariant.long;
-          same = settle_other c.args.self.now c.args.state.now c.loop-species.self c.loop-species.state c.pop.new.self.items s c.loop-species.invariant c.in-Some.ensures.items (λ e. w.in_default-index.not-Fits (mark at.After-index r.0 r.1 ∙ e)) (c.requires.sums s r.0 r.1);
-        })
+      | in-Fits w ↦
+          let read : w.index-in-Fits.result.now ≡ amount c.loop-species.self.next.items s = amount_read c.loop-species.self.next.items w.index-in-Fits.result.now s r.0 (omega (arith, r.1, c.loop-species.invariant.clearing.sums)) w.index-in-Fits.ensures in
+          rw (w.self-is, w.state-is, w.set.ensures) (record {
+            clearing = subst (λ room. ClearingOf (length c.args.state.now) room (set c.loop-species.self.marks.items (s - 1) Untouched) c.loop-species.self.next.items c.pop.new.self.items) (sym c.pop.ensures.capacity)
+                (settle_clears c.args.self.now c.args.state.now c.loop-species.self c.loop-species.state c.pop.new.self.items s c.loop-species.invariant c.in-Some.ensures.items);
+            long = settle_long c.args.self.now c.args.state.now c.loop-species.self c.loop-species.state c.pop.new.self.items s c.loop-species.invariant c.in-Some.ensures.items w.index-in-Fits.result.now;
+            same = settle_fits c.args.self.now c.args.state.now c.loop-species.self c.loop-species.state c.pop.new.self.items s c.loop-species.invariant c.in-Some.ensures.items w.index-in-Fits.result.now (sym (mark at.After-index r.0 r.1) ∙ w.in-Fits.is) read;
+          })
+      | in_default-index w ↦
+          rw (w.self-is, w.state-is) (record {
+            clearing = subst (λ room. ClearingOf (length c.args.state.now) room (set c.loop-species.self.marks.items (s - 1) Untouched) c.loop-species.self.next.items c.pop.new.self.items) (sym c.pop.ensures.capacity)
+                (settle_clears c.args.self.now c.args.state.now c.loop-species.self c.loop-species.state c.pop.new.self.items s c.loop-species.invariant c.in-Some.ensures.items);
+            long = c.loop-species.invariant.long;
+            same = settle_other c.args.self.now c.args.state.now c.loop-species.self c.loop-species.state c.pop.new.self.items s c.loop-species.invariant c.in-Some.ensures.items (λ e. w.in_default-index.not-Fits (mark at.After-index r.0 r.1 ∙ e)) (c.requires.sums s r.0 r.1);
+          })
     ]
 
 pub returns-clause-ready : goal.returns-clause-ready
 returns-clause-ready c =
     let same : c.pop.new.self.items ≡ c.loop-species.self.touched.items = sym (c.in_default.ensures.items ∙ append-nil c.pop.new.self.items) in
     rw (same, c.pop.ensures.capacity)
-      (clearing_ends (length c.args.state.now) (vec_capacity c.loop-species.self.touched) c.loop-species.self.marks.items c.loop-species.self.next.items c.loop-species.self.touched.items c.loop-species.invariant.clearing
-        (nothing_left c.loop-species.self.touched.items (c.loop-species.self.touched.ok.0) c.in_default.ensures.cases.0))
+    (clearing_ends (length c.args.state.now) (vec_capacity c.loop-species.self.touched) c.loop-species.self.marks.items c.loop-species.self.next.items c.loop-species.self.touched.items c.loop-species.invariant.clearing
+    (nothing_left c.loop-species.self.touched.items (c.loop-species.self.touched.ok.0) c.in_default.ensures.cases.0))
