@@ -1,10 +1,10 @@
 -- A step by the sums of its touched species.
-use Rattle.std.proofs.Common.{◌≡◌, ℕ, zero, suc, ◌+◌, ◌<◌, ◌≤◌, List, [], ◌∷◌, length, replicate, get_or, Option, Some, None, refl, sym, ◌∙◌, ap, ap₂, subst, arith}
+use Rattle.std.proofs.Common.{◌≡◌, ℕ, zero, suc, ◌+◌, ◌≤◌, List, [], length, replicate, get_or, Option, Some, None, refl, sym, ◌∙◌, ap, ap₂, subst, arith}
 use Rattle.std.proofs.lemmas.List.{length-replicate}
 use Rattle.std.specs.Option.{option_or}
 use Rattle.std.specs.Vec.{vec_capacity}
 use Rattle.crn_fraction.specs.Rational.{ℚ, 0ℚ, ◌≤ℚ◌}
-use Rattle.crn_net.specs.Network.{Network, amount, AreFlows, IsNotNegative, IsState}
+use Rattle.crn_net.specs.Network.{Network, amount, IsNotNegative, IsState}
 use Rattle.crn_net.specs.Totals.{change}
 use Rattle.crn_net.specs.declared.Flow.{Flow}
 use Rattle.crn_segments.proofs.Marks.{none_marked, ready_room}
@@ -13,7 +13,6 @@ use Rattle.crn_segments.specs.Fits.{flows_of}
 use Rattle.crn_segments.specs.Step.{AreSums, sum_of, sum_refusal, first_refusal, sums_refusal}
 use Rattle.crn_segments.specs.Sums.{RoomOf, IsReady, mark_of, by_mark, sum_in, sum_from}
 use Rattle.crn_segments.specs.declared.StepError.{StepError}
-use Rattle.crn_segments.specs.declared.work.Mark.{Mark}
 use Rattle.crn_segments.specs.declared.work.Mark.TheVariants.{Untouched}
 use Rattle.crn_segments.specs.declared.work.Sums.{Sums}
 

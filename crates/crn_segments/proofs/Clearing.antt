@@ -1,12 +1,12 @@
 -- The marks are taken away, one after another.
-use Rattle.std.proofs.Common.{◌≡◌, ◌≢◌, ℕ, ◌-◌, ◌≤◌, List, [], ◌∷◌, ◌++◌, length, set, Some, None, refl, sym, ◌∙◌, ap, ap₂, subst, ◌⊎◌, ⊎_elim, arith}
+use Rattle.std.proofs.Common.{◌≡◌, ◌≢◌, ℕ, ◌-◌, ◌≤◌, List, [], ◌∷◌, ◌++◌, length, set, Some, refl, sym, ◌∙◌, ap, ap₂, subst, ◌⊎◌, ⊎_elim, arith}
 use Rattle.std.proofs.lemmas.List.{length-set}
 use Rattle.std.proofs.lemmas.List.Elements.{Contains-append_left, Contains-push}
 use Rattle.std.specs.List.{Contains}
 use Rattle.std.specs.Vec.{vec_capacity}
 use Rattle.crn_fraction.specs.Rational.{ℚ, 0ℚ, ◌≤ℚ◌}
 use Rattle.crn_net.specs.Network.{amount}
-use Rattle.crn_segments.specs.Sums.{mark_of, sum_in, sum_at, by_mark, RoomOf, IsRoom, IsReady}
+use Rattle.crn_segments.specs.Sums.{mark_of, sum_in, sum_at, by_mark, RoomOf, IsRoom}
 use Rattle.crn_segments.specs.declared.work.Mark.{Mark}
 use Rattle.crn_segments.specs.declared.work.Mark.TheVariants.{Untouched, Fits, TooBig}
 use Rattle.crn_segments.specs.declared.work.Sums.{Sums}

@@ -1,16 +1,15 @@
 -- The marked sums of a step, one species after another.
-use Rattle.std.proofs.Common.{◌≡◌, ◌≢◌, ℕ, zero, suc, ◌+◌, ◌-◌, ◌<◌, ◌≤◌, ◌==◌, ◌&&◌, if◌then◌else◌, Bool, true, false, List, [], ◌∷◌, ◌++◌, length, get_or, set, Option, Some, None, refl, sym, ◌∙◌, ap, ap₂, subst, ◌⊎◌, inl, inr, ⊎_elim, arith}
+use Rattle.std.proofs.Common.{◌≡◌, ◌≢◌, ℕ, zero, suc, ◌+◌, ◌-◌, ◌<◌, ◌≤◌, ◌==◌, if◌then◌else◌, true, false, List, [], ◌∷◌, ◌++◌, length, get_or, set, Option, Some, None, refl, sym, ◌∙◌, ap, ap₂, subst, ◌⊎◌, inl, inr, ⊎_elim, arith}
 use Rattle.std.proofs.lemmas.Bool.Decides.{nat_tests}
 use Rattle.std.proofs.lemmas.List.{get_or_read, get_or-set_same, get_or-set_other, length-set, length_push}
 use Rattle.std.proofs.lemmas.List.Elements.{Contains-append_left, Contains-append_cases, Contains-push}
 use Rattle.std.specs.List.{Contains}
 use Rattle.crn_fraction.specs.Rational.{ℚ, 0ℚ, ◌≤ℚ◌}
-use Rattle.crn_net.specs.Network.{amount, IsNotNegative}
+use Rattle.crn_net.specs.Network.{amount}
 use Rattle.crn_segments.proofs.Amounts.{amount-set_same, amount-set_other}
 use Rattle.crn_segments.proofs.SignLaws.{not_negative_is}
 use Rattle.crn_segments.specs.Step.{sum_refusal}
 use Rattle.crn_segments.specs.Sums.{mark_of, by_mark, sum_at, is_free, free, RoomOf, sum_with, sum_where, mark_refusal}
-use Rattle.crn_segments.specs.declared.StepError.{StepError}
 use Rattle.crn_segments.specs.declared.StepError.TheVariants.{TakesMore}
 use Rattle.crn_segments.specs.declared.work.Mark.{Mark}
 use Rattle.crn_segments.specs.declared.work.Mark.TheVariants.{Untouched, Fits, TooBig}

@@ -1,5 +1,5 @@
 -- What refuses a step, flow by flow and species by species.
-use Rattle.std.proofs.Common.{◌≡◌, ℕ, zero, suc, ◌+◌, ◌-◌, ◌<◌, ◌≤◌, if◌then◌else◌, Bool, true, false, List, [], ◌∷◌, map, length, get_or, set, drop, Option, Some, None, refl, sym, ◌∙◌, ap, ap₂, subst, ◌⊎◌, ⊎_elim, arith, nat_lt, add-one, sub-one}
+use Rattle.std.proofs.Common.{◌≡◌, ℕ, zero, suc, ◌+◌, ◌-◌, ◌<◌, ◌≤◌, if◌then◌else◌, true, false, List, [], ◌∷◌, length, get_or, set, drop, Option, Some, None, sym, ◌∙◌, ap, ap₂, subst, ⊎_elim, arith, nat_lt, add-one}
 use Rattle.std.proofs.lemmas.Bool.Decides.{nat_tests}
 use Rattle.std.proofs.lemmas.List.{drop_more, drop_all, length-set}
 use Rattle.std.specs.Option.{option_or, option_map}
@@ -7,7 +7,7 @@ use Rattle.crn_fraction.specs.Rational.{ℚ, 0ℚ, ◌≤ℚ◌}
 use Rattle.crn_net.specs.Network as Plain
 use Rattle.crn_net.specs.Network.{Network, amount}
 use Rattle.crn_net.specs.declared.Flow.{Flow}
-use Rattle.crn_net.specs.Views.{part_of, parts_of}
+use Rattle.crn_net.specs.Views.{parts_of}
 use Rattle.crn_net.specs.declared.Part.{Part}
 use Rattle.crn_segments.proofs.Amounts.{amount-set_same, amount-set_other}
 use Rattle.crn_segments.proofs.SignLaws.{is_not_negative}

@@ -8,9 +8,8 @@ use Rattle.crn_segments.proofs.Steps.{or_none, refusal_none, flows_exist, sum_is
 use Rattle.crn_segments.specs.Fits.{StepFits}
 use Rattle.crn_segments.specs.Flows.{IsSegment}
 use Rattle.crn_segments.specs.Signs.{is_negative_ℚ}
-use Rattle.crn_segments.specs.Step.{AreSums, flows_refusal, sums_refusal, first_refusal, sum_refusal, sum_of, step_refusal}
+use Rattle.crn_segments.specs.Step.{AreSums, sums_refusal, first_refusal, sum_refusal, sum_of, step_refusal}
 use Rattle.crn_segments.specs.Steps.{AreSegments, StepsGo, StepsFit}
-use Rattle.crn_segments.specs.declared.StepError.{StepError}
 use Rattle.crn_segments.specs.declared.StepError.TheVariants.{TakesMore}
 
 -- a sum that nothing refuses is a number, and not negative

@@ -1,10 +1,10 @@
 -- A step is refused exactly where its segment is not legal or it does not fit.
-use Rattle.std.proofs.Common.{◌≡◌, ◌≢◌, ℕ, zero, suc, ◌+◌, ◌-◌, ◌<◌, ◌≤◌, ◌&&◌, ◌||◌, ◌==◌, cond, pos, if◌then◌else◌, Bool, true, false, List, [], ◌∷◌, ◌++◌, map, take, drop, length, Option, Some, None, refl, sym, ◌∙◌, ap, ap₂, subst, ◌⊎◌, inl, inr, ⊎_elim, arith, nat_lt, ext_get_or}
+use Rattle.std.proofs.Common.{◌≡◌, ◌≢◌, ℕ, zero, suc, ◌+◌, ◌<◌, ◌≤◌, ◌&&◌, ◌||◌, ◌==◌, cond, pos, if◌then◌else◌, Bool, true, false, List, [], ◌∷◌, ◌++◌, take, drop, length, Option, Some, None, refl, sym, ◌∙◌, ap, ap₂, subst, ◌⊎◌, inl, inr, ⊎_elim, arith, nat_lt, ext_get_or}
 use Rattle.std.proofs.lemmas.Bool.Decides.{nat_tests}
 use Rattle.std.proofs.lemmas.List.FromFn.{length-map-range_with_len}
 use Rattle.std.proofs.lemmas.List.{take_at}
 use Rattle.std.specs.Option.{option_or, option_map}
-use Rattle.crn_fraction.proofs.Linear.{not_<ℚ, <ℚ-≤ℚ_trans, ≤ℚ-<ℚ_trans, +ℚ-≤ℚ_left, +ℚ-≤ℚ}
+use Rattle.crn_fraction.proofs.Linear.{not_<ℚ, <ℚ-≤ℚ_trans, +ℚ-≤ℚ_left, +ℚ-≤ℚ}
 use Rattle.crn_fraction.proofs.Order.{≤ℚ_refl, ≤ℚ_of_<ℚ}
 use Rattle.crn_fraction.proofs.Ring.{+ℚ-zero, zero-+ℚ, zero-*ℚ, sub_ℚ-self}
 use Rattle.crn_fraction.specs.Frac.{IsFrac}
@@ -15,14 +15,14 @@ use Rattle.crn_net.proofs.Shape.{count_of_other, count_of_same}
 use Rattle.crn_net.specs.Network.{Network, Part, amount, after, numbered, taken, given, count_of, flux_of, AreFlows, AreParts, IsApplicable, IsLegal, IsNetwork}
 use Rattle.crn_net.specs.Totals.{change, added}
 use Rattle.crn_net.specs.declared.Flow.{Flow}
-use Rattle.crn_segments.proofs.SignLaws.{is_positive, positive_is, not_negative_is, frac_is, is_frac_cases, is_positive_ℚ_cases}
+use Rattle.crn_segments.proofs.SignLaws.{positive_is, not_negative_is, frac_is, is_frac_cases, is_positive_ℚ_cases}
 use Rattle.crn_segments.specs.Progress.{Progress}
 use Rattle.crn_segments.specs.Flows.{AreAscending, IsSegment}
-use Rattle.crn_segments.specs.Signs.{is_positive_ℚ, is_negative_ℚ, is_frac}
+use Rattle.crn_segments.specs.Signs.{is_positive_ℚ, is_frac}
 use Rattle.crn_segments.specs.Step.{first_absent, flow_refusal, flows_refusal, fitting_sum, sum_of, sum_refusal, first_refusal, sums_refusal, step_refusal, AreSums}
 use Rattle.crn_segments.specs.Fits.{SumFits, StepFits, flows_of, is_on_side}
 use Rattle.crn_segments.specs.declared.StepError.{StepError}
-use Rattle.crn_segments.specs.declared.StepError.TheVariants.{NoReaction, NotPresent, TooBig, TakesMore}
+use Rattle.crn_segments.specs.declared.StepError.TheVariants.{NoReaction, NotPresent, TakesMore}
 
 -- ---- the first refusal
 

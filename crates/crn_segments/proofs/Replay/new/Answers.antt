@@ -1,4 +1,4 @@
-use Rattle.std.proofs.Common.{◌≡◌, length, sym, ◌∙◌, ap, subst}
+use Rattle.std.proofs.Common.{subst}
 use Rattle.crn_net.specs.Network.{IsNotNegative}
 use Rattle.crn_segments.proofs.Applied.{new_is_ready}
 use Rattle.crn_segments.specs.Sums.{IsReady}

@@ -1,8 +1,6 @@
-use Rattle.std.proofs.Common.{◌≡◌, nat_lt, [], pos, refl, sym, ◌∙◌, ap, ap₂, subst}
+use Rattle.std.proofs.Common.{nat_lt, [], pos, refl, ◌∙◌, ap, ap₂}
 use Rattle.std.specs.Prelude.{◌-ℤ◌}
-use Rattle.crn_fraction.specs.Rational.{◌*ℚ◌}
 use Rattle.crn_net.specs.Network.{Reaction, count_of}
-use Rattle.crn_net.specs.Totals.{change}
 use Rattle.crn_net.specs.Views.{parts_of, reaction_of}
 use Rattle.crn_segments.specs.Sums.{sum_in, sum_where, gained, is_new}
 use Rattle.crn_segments.proofs.Products.{product_is, same_side}

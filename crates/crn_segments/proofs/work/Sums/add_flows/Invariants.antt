@@ -1,4 +1,3 @@
-use Rattle.std.proofs.Common.{length}
 use Rattle.crn_segments.proofs.FlowWalk.{FlowWalk}
 use Rattle.crn_segments.proofs.work.Sums.add_flows.Given as goal
 

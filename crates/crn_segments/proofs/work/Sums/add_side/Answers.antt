@@ -1,12 +1,12 @@
-use Rattle.std.proofs.Common.{◌≡◌, ◌<◌, ◌==◌, length, pos, sym, ◌∙◌, ap, subst, arith, to_z, of_z}
+use Rattle.std.proofs.Common.{◌≡◌, ◌<◌, ◌==◌, length, pos, ◌∙◌, ap, arith, to_z, of_z}
 use Rattle.std.proofs.lemmas.Int.{ints}
 use Rattle.std.specs.Int.{w64}
 use Rattle.std.specs.Prelude.{◌-ℤ◌}
 use Rattle.crn_fraction.specs.Rational.{◌*ℚ◌, whole}
 use Rattle.crn_net.specs.Network.{count_of}
 use Rattle.crn_net.specs.Views.{parts_of, reaction_of}
-use Rattle.crn_segments.specs.Sums.{sum_in, sum_where, gained}
-use Rattle.crn_segments.proofs.SideWalk.{SideWalk, read, walk_skips, walk_adds, walk_ends, part_in_range}
+use Rattle.crn_segments.specs.Sums.{sum_in, sum_where}
+use Rattle.crn_segments.proofs.SideWalk.{read, walk_skips, walk_adds}
 use Rattle.crn_segments.proofs.work.Sums.add_side.Goals as goal
 use Rattle.crn_segments.proofs.work.Sums.add_side.Goals.{then-count_of-eq0, else-count_of-eq0}
 

@@ -1,4 +1,4 @@
-use Rattle.std.proofs.Common.{sym, ◌∙◌}
+use Rattle.std.proofs.Common.{sym}
 use Rattle.crn_segments.proofs.Least.{none_refused, least_is_refused}
 use Rattle.crn_segments.proofs.work.Sums.check.Goals as goal
 

@@ -1,7 +1,7 @@
-use Rattle.std.proofs.Common.{◌≡◌, ◌≤◌, length, [], ◌++◌, ◌∷◌, sym, ◌∙◌, ap, subst, arith, refl}
+use Rattle.std.proofs.Common.{◌≡◌, ◌≤◌, length, sym, ◌∙◌, arith}
 use Rattle.std.proofs.lemmas.List.{append-nil}
 use Rattle.std.specs.Vec.{vec_capacity}
-use Rattle.crn_segments.proofs.Clearing.{clearing_starts, clearing_more, clearing_ends, last_in_range, nothing_left}
+use Rattle.crn_segments.proofs.Clearing.{clearing_more, clearing_ends, last_in_range, nothing_left}
 use Rattle.crn_segments.proofs.work.Sums.clear.Goals as goal
 use Rattle.crn_segments.proofs.work.Sums.clear.Goals.{In-Some}
 

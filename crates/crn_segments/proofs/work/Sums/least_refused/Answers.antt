@@ -1,7 +1,5 @@
-use Rattle.std.proofs.Common.{◌≡◌, ◌≤◌, ◌<◌, ◌≢◌, get_or, length, true, false, refl, sym, ◌∙◌, ap, subst, arith, None}
-use Rattle.std.specs.List.{Contains}
-use Rattle.crn_segments.specs.Sums.{refusal_in}
-use Rattle.crn_segments.proofs.Least.{listed_in_range, least_less, least_stays, least_all}
+use Rattle.std.proofs.Common.{◌≤◌, length, subst}
+use Rattle.crn_segments.proofs.Least.{listed_in_range, least_all}
 use Rattle.crn_segments.proofs.work.Sums.least_refused.Goals as goal
 
 pub refusal_of-requires-clause-low : goal.refusal_of-requires-clause-low

@@ -1,13 +1,13 @@
-use Rattle.std.proofs.Common.{◌≡◌, ◌≢◌, ◌≤◌, length, set, ◌-◌, [], ◌++◌, ◌∷◌, sym, ◌∙◌, ap, subst, arith, refl}
+use Rattle.std.proofs.Common.{◌≡◌, ◌≤◌, length, set, ◌-◌, sym, ◌∙◌, subst, arith}
 use Rattle.std.proofs.lemmas.List.{append-nil}
 use Rattle.std.specs.Vec.{vec_capacity}
 use Rattle.crn_fraction.specs.Rational.{0ℚ, ◌≤ℚ◌}
 use Rattle.crn_net.specs.Network.{amount}
 use Rattle.crn_segments.proofs.Amounts.{amount_read}
-use Rattle.crn_segments.proofs.Clearing.{ClearingOf, settling_starts, settling_ends, settling_range, sum_not_negative, settle_clears, settle_long, settle_fits, settle_other, clearing_ends, nothing_left}
+use Rattle.crn_segments.proofs.Clearing.{ClearingOf, settling_range, sum_not_negative, settle_clears, settle_long, settle_fits, settle_other, clearing_ends, nothing_left}
 use Rattle.crn_segments.proofs.Marks.{mark_read}
 use Rattle.crn_segments.specs.Sums.{mark_of}
-use Rattle.crn_segments.specs.declared.work.Mark.TheVariants.{Untouched, Fits}
+use Rattle.crn_segments.specs.declared.work.Mark.TheVariants.{Untouched}
 use Rattle.crn_segments.proofs.work.Sums.settle.Goals as goal
 use Rattle.crn_segments.proofs.work.Sums.settle.Goals.{In-Some, After-index, in-Fits, in_default-index}
 

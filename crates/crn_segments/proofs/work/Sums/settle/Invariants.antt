@@ -1,4 +1,4 @@
-use Rattle.std.proofs.Common.{length, vec_len}
+use Rattle.std.proofs.Common.{vec_len}
 use Rattle.crn_segments.proofs.Clearing.{Settling}
 use Rattle.crn_segments.proofs.work.Sums.settle.Given as goal
 

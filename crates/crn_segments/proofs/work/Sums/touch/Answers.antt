@@ -1,7 +1,6 @@
-use Rattle.std.proofs.Common.{◌≡◌, ◌≤◌, ◌∙◌, ◌-◌, ◌++◌, [], ◌∷◌, length, set, sym, ap, ap₂, subst, arith}
+use Rattle.std.proofs.Common.{◌≡◌, ◌≤◌, ◌∙◌, ◌-◌, length, set, sym, ap, subst, arith}
 use Rattle.std.specs.Vec.{vec_capacity}
-use Rattle.crn_net.specs.Network.{amount}
-use Rattle.crn_segments.specs.Sums.{mark_of, sum_at, RoomOf}
+use Rattle.crn_segments.specs.Sums.{mark_of, sum_at}
 use Rattle.crn_segments.specs.declared.work.Mark.TheVariants.{Untouched, Fits}
 use Rattle.crn_segments.proofs.Marks.{mark_read, room_left, touched_room, touched_sums}
 use Rattle.crn_segments.proofs.work.Sums.touch.Goals as goal
