@@ -4,3 +4,4 @@ pub mod Units
 pub mod Steps
 pub mod Multiples
 pub mod Firsts
+pub mod Points

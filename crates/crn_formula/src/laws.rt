@@ -1,10 +1,10 @@
 //! What is true of every function by pieces, of the least of forms, and of the three domains.
-ghost use Rattle.std.specs.Prelude.{◌≡◌, ◌↔◌, ◌∷◌, ℕ, List, length, Some, None, IsTrue, All, Any, Contains};
+ghost use Rattle.std.specs.Prelude.{◌≡◌, ◌↔◌, ◌∷◌, ◌+◌, ℕ, List, length, Some, None, IsTrue, All, Any, Contains};
 ghost use Rattle.crn_fraction.specs.Rational.{ℚ, 0ℚ, ◌≤ℚ◌, ◌<ℚ◌};
-ghost use Rattle.crn_linear.specs.Forms.{at};
+ghost use Rattle.crn_linear.specs.Forms.{at, entry_of};
 ghost use Rattle.crn_formula.specs.Pieces.{Piece, Domain, Holds, all_hold, pieces_value, IsIn, IsCovered, HaveOneValue, Covers, Agree};
 ghost use Rattle.crn_formula.specs.Functions.{least_value};
-ghost use Rattle.crn_formula.specs.Domains.{whole_space, orthant};
+ghost use Rattle.crn_formula.specs.Domains.{whole_space, affine_domain, orthant};
 
 /// Pieces that cover a domain, or agree on it, at its points of whole numbers do so at each of its points, because a multiple of
 /// a point meets the same rows and conditions.
@@ -24,4 +24,11 @@ pub fn values_of_pieces()
 pub fn least_values()
     ensures below { (form : List ℚ) (forms : List (List ℚ)) (x : List ℚ) → All (λ f. least_value (form ∷ forms) x ≤ℚ at f x) (form ∷ forms) }
     ensures one { (form : List ℚ) (forms : List (List ℚ)) (x : List ℚ) → Any (λ f. at f x ≡ least_value (form ∷ forms) x) (form ∷ forms) }
+{}
+
+/// The points of the three domains: every point, those whose last number is above 0, and those without a negative number.
+pub fn points_of_domains()
+    ensures whole { (n : ℕ) (x : List ℚ) → IsIn (whole_space n) x ↔ (length x ≡ n) }
+    ensures affine { (n : ℕ) (x : List ℚ) → IsIn (affine_domain (n + 1)) x ↔ ((length x ≡ n + 1) × (0ℚ <ℚ entry_of x n)) }
+    ensures orthant { (n : ℕ) (x : List ℚ) → IsIn (orthant n) x ↔ ((length x ≡ n) × All (λ t. 0ℚ ≤ℚ t) x) }
 {}
