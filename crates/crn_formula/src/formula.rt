@@ -34,10 +34,9 @@ impl Formula {
         match self {
             Formula::Lin(_) => 1,
             Formula::Scale(_, a) => more(a.nodes()),
-            Formula::Add(a, b) => more(a.nodes().saturating_add(b.nodes())),
-            Formula::Sub(a, b) => more(a.nodes().saturating_add(b.nodes())),
-            Formula::Min(a, b) => more(a.nodes().saturating_add(b.nodes())),
-            Formula::Max(a, b) => more(a.nodes().saturating_add(b.nodes())),
+            Formula::Add(a, b) | Formula::Sub(a, b) | Formula::Min(a, b) | Formula::Max(a, b) => {
+                more(a.nodes().saturating_add(b.nodes()))
+            }
         }
     }
 
@@ -48,10 +47,9 @@ impl Formula {
         match self {
             Formula::Lin(_) => 1,
             Formula::Scale(_, a) => more(a.depth()),
-            Formula::Add(a, b) => more(a.depth().max(b.depth())),
-            Formula::Sub(a, b) => more(a.depth().max(b.depth())),
-            Formula::Min(a, b) => more(a.depth().max(b.depth())),
-            Formula::Max(a, b) => more(a.depth().max(b.depth())),
+            Formula::Add(a, b) | Formula::Sub(a, b) | Formula::Min(a, b) | Formula::Max(a, b) => {
+                more(a.depth().max(b.depth()))
+            }
         }
     }
 
@@ -89,10 +87,9 @@ impl Formula {
         match self {
             Formula::Lin(form) => form.len() == columns,
             Formula::Scale(_, a) => a.is_over(columns),
-            Formula::Add(a, b) => a.is_over(columns) && b.is_over(columns),
-            Formula::Sub(a, b) => a.is_over(columns) && b.is_over(columns),
-            Formula::Min(a, b) => a.is_over(columns) && b.is_over(columns),
-            Formula::Max(a, b) => a.is_over(columns) && b.is_over(columns),
+            Formula::Add(a, b) | Formula::Sub(a, b) | Formula::Min(a, b) | Formula::Max(a, b) => {
+                a.is_over(columns) && b.is_over(columns)
+            }
         }
     }
 
@@ -103,10 +100,9 @@ impl Formula {
         match self {
             Formula::Lin(form) => has_constant(form, variables),
             Formula::Scale(_, a) => a.has_constant(variables),
-            Formula::Add(a, b) => a.has_constant(variables) || b.has_constant(variables),
-            Formula::Sub(a, b) => a.has_constant(variables) || b.has_constant(variables),
-            Formula::Min(a, b) => a.has_constant(variables) || b.has_constant(variables),
-            Formula::Max(a, b) => a.has_constant(variables) || b.has_constant(variables),
+            Formula::Add(a, b) | Formula::Sub(a, b) | Formula::Min(a, b) | Formula::Max(a, b) => {
+                a.has_constant(variables) || b.has_constant(variables)
+            }
         }
     }
 }

@@ -76,6 +76,12 @@ fn size(alloc: Global) -> Result<Formula, AllocError> {
     Ok(Formula::Max(lin(alloc, [1, 0])?, Box::new(alloc, opposite)?))
 }
 
+// min(max(3 + x1, 0), 4), of one variable
+fn bounded(alloc: Global) -> Result<Formula, AllocError> {
+    let low = clamp(alloc)?;
+    Ok(Formula::Min(Box::new(alloc, low)?, lin(alloc, [0, 4])?))
+}
+
 // max(3 + x1, 0), of one variable
 fn clamp(alloc: Global) -> Result<Formula, AllocError> {
     Ok(Formula::Max(lin(alloc, [1, 3])?, lin(alloc, [0, 0])?))
@@ -92,6 +98,13 @@ fn values_of_formulas(rt: HostRuntime) {
     assert!(rt; value(2, FunctionKind::Formula(median), &[-5, 7]) == Some(Ok(whole(0))));
     assert!(rt; value(2, FunctionKind::Formula(size), &[-4, 1]) == Some(Ok(whole(4))));
     assert!(rt; value(1, FunctionKind::Formula(clamp), &[2]) == Some(Ok(whole(5))));
+    for (x, want) in [(-5, 0), (-3, 0), (-1, 2), (1, 4), (7, 4)] {
+        let Ok(bounded) = bounded(alloc) else {
+            assert!(rt; false, "no memory");
+            return;
+        };
+        assert!(rt; value(1, FunctionKind::Formula(bounded), &[x]) == Some(Ok(whole(want))));
+    }
 }
 
 #[test]
@@ -117,4 +130,29 @@ fn kinds_and_domains(rt: HostRuntime) {
     assert!(rt; !linear.is_affine() && linear.domain().rows().is_empty());
     assert!(rt; linear.domain().inside().len() == 2);
     assert!(rt; Domain::orthant(3).rows().len() == 3);
+    if !matches!(linear.kind(), FunctionKind::Pieces(_)) {
+        assert!(rt; false, "it is given by pieces");
+        return;
+    }
+    let nonnegative = linear.on_orthant();
+    assert!(rt; nonnegative.domain().rows().len() == 2 && nonnegative.domain().inside().len() == 2);
+    assert!(rt; !nonnegative.is_affine() && matches!(nonnegative.kind(), FunctionKind::Pieces(_)));
+}
+
+#[test]
+fn texts_of_errors(rt: HostRuntime) {
+    let alloc = rt.alloc();
+    for (error, text) in [
+        (
+            ValueError::TooBig,
+            "a number on the way to the value is too big",
+        ),
+        (ValueError::NoPiece, "no piece holds"),
+    ] {
+        let Ok(told) = format!(in alloc; "{error}") else {
+            assert!(rt; false, "no memory");
+            return;
+        };
+        assert!(rt; told.as_str() == text);
+    }
 }

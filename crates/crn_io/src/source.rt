@@ -246,8 +246,7 @@ pub fn read_all<S: Source>(
     ensures too_long { IsErrOf result ReadAllError.TooLong → ConsumesSome (S.left source.old) (S.left source.new) (λ n. n ≡ limit + 1) }
     ensures fault { IsErrOf result ReadAllError.Fault → Rose (S.faults source.old) (S.faults source.new) }
     ensures fault_within { IsErrOf result ReadAllError.Fault → ConsumesSome (S.left source.old) (S.left source.new) (λ n. n ≤ limit) }
-    ensures memory_within { IsErrOf result ReadAllError.Memory → ConsumesSome (S.left source.old) (S.left source.new) (λ n. n ≤ limit) }
-    ensures memory { OnErr result (ConsumesSome (S.left source.old) (S.left source.new) (λ n. n ≤ limit + 1)) }
+    ensures memory { IsErrOf result ReadAllError.Memory → ConsumesSome (S.left source.old) (S.left source.new) (λ n. n ≤ limit) }
     ensures later { S.faults source.old ≤ S.faults source.new }
 {
     let mut bytes = Vec::new(alloc);
