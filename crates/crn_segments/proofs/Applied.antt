@@ -9,8 +9,9 @@ use Rattle.crn_net.specs.Totals.{change}
 use Rattle.crn_net.specs.declared.Flow.{Flow}
 use Rattle.crn_segments.proofs.Marks.{none_marked, ready_room}
 use Rattle.crn_segments.proofs.Runs.{sum_there, none_refused}
+use Rattle.crn_segments.proofs.Steps.{AreSums}
 use Rattle.crn_segments.specs.Fits.{flows_of}
-use Rattle.crn_segments.specs.Step.{AreSums, sum_of, sum_refusal, first_refusal, sums_refusal}
+use Rattle.crn_segments.specs.Step.{sum_of, sum_refusal, first_refusal, sums_refusal}
 use Rattle.crn_segments.specs.Sums.{RoomOf, IsReady, mark_of, by_mark, sum_in, sum_from}
 use Rattle.crn_segments.specs.declared.StepError.{StepError}
 use Rattle.crn_segments.specs.declared.work.Mark.TheVariants.{Untouched}

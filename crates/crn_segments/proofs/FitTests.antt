@@ -1,25 +1,22 @@
 -- Tests that a step and a completion fit, and what they say.
-use Rattle.std.proofs.Common.{◌≡◌, ℕ, zero, suc, ◌<◌, ◌≤◌, ◌^◌, Bool, true, false, List, [], ◌∷◌, nat_lt, refl, sym, ◌∙◌, ap, subst, ⊎_elim, arith, ltb-true, lt-ltb, eq-or-lt_of_le}
-use Rattle.std.specs.Prelude.{pos, ◌&&◌, unsigned_abs, if◌then◌else◌}
+use Rattle.std.proofs.Common.{◌≡◌, ℕ, zero, suc, ◌<◌, ◌≤◌, Bool, true, false, List, [], ◌∷◌, nat_lt, refl, sym, ◌∙◌, ap, subst, ⊎_elim, arith, lt-ltb, eq-or-lt_of_le}
+use Rattle.std.specs.Prelude.{pos, ◌&&◌, if◌then◌else◌}
 use Rattle.crn_fraction.specs.Frac.{IsFrac}
 use Rattle.crn_fraction.specs.Rational.{ℚ, ◌+ℚ◌, ◌*ℚ◌, ◌/ℚ◌, whole}
 use Rattle.crn_net.proofs.Taken.{taken_in_range}
 use Rattle.crn_net.specs.Network.{Network, AreReactions, amount, taken, alone, greatest_flux}
 use Rattle.crn_net.specs.Totals.{change}
 use Rattle.crn_net.specs.declared.Flow.{Flow}
+use Rattle.crn_segments.proofs.SignLaws.{is_frac_cases}
+use Rattle.crn_segments.specs.Signs.{is_frac}
 use Rattle.crn_segments.specs.Fits.{SumFits, StepFits, TurnFits, flows_of}
 
 both_true : (a b : Bool) → (a && b) ≡ true → (a ≡ true) × (b ≡ true)
 both_true true b h = (refl, h)
 both_true false b h = absurd (cc h)
 
-abbrev pub is_frac : ℚ → Bool
-is_frac a = nat_lt (unsigned_abs a.num) (2 ^ 63) && nat_lt a.den (2 ^ 63)
-
-frac_is : (a : ℚ) → is_frac a ≡ true → IsFrac a
-frac_is a h =
-    let k = both_true (nat_lt (unsigned_abs a.num) (2 ^ 63)) (nat_lt a.den (2 ^ 63)) h in
-    record { num_fits = ltb-true _ _ k.0; den_fits = ltb-true _ _ k.1 }
+frac_holds : (a : ℚ) → is_frac a ≡ true → IsFrac a
+frac_holds a h = ⊎_elim (λ k. k.1) (λ k. absurd (cc (k.0, h))) (is_frac_cases a)
 
 abbrev pub sum_fits : (ℕ → ℚ) → ℚ → List Flow → Bool
 sum_fits k a [] = true
@@ -30,7 +27,7 @@ sum_is k a [] h = tt
 sum_is k a (f ∷ fs) h =
     let x = both_true (is_frac (k f.reaction *ℚ f.flux)) _ h in
     let y = both_true (is_frac (a +ℚ k f.reaction *ℚ f.flux)) _ x.1 in
-    (frac_is _ x.0, frac_is _ y.0, sum_is k (a +ℚ k f.reaction *ℚ f.flux) fs y.1)
+    (frac_holds _ x.0, frac_holds _ y.0, sum_is k (a +ℚ k f.reaction *ℚ f.flux) fs y.1)
 
 -- the test holds from 1 to n
 abbrev pub each_to : (ℕ → Bool) → ℕ → Bool
@@ -54,7 +51,7 @@ abbrev pub quotient_fits : Network → ℕ → List ℚ → ℕ → Bool
 quotient_fits net r c s = if nat_lt 0 (taken net r s) then is_frac (amount c s /ℚ whole (pos (taken net r s))) else true
 
 quotient_is : (net : Network) (r : ℕ) (c : List ℚ) (s : ℕ) → 0 < taken net r s → quotient_fits net r c s ≡ true → IsFrac (amount c s /ℚ whole (pos (taken net r s)))
-quotient_is net r c s t h = frac_is _ (sym (ap (λ b. if b then is_frac (amount c s /ℚ whole (pos (taken net r s))) else true) (lt-ltb 0 (taken net r s) t)) ∙ h)
+quotient_is net r c s t h = frac_holds _ (sym (ap (λ b. if b then is_frac (amount c s /ℚ whole (pos (taken net r s))) else true) (lt-ltb 0 (taken net r s) t)) ∙ h)
 
 abbrev pub turn_fits : Network → ℕ → List ℚ → Bool
 turn_fits net r c = each_to (quotient_fits net r c) net.species && step_fits net c (alone r (greatest_flux net r (amount c)))

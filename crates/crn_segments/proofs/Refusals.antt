@@ -1,22 +1,20 @@
 -- What refuses a step, flow by flow and species by species.
-use Rattle.std.proofs.Common.{◌≡◌, ℕ, zero, suc, ◌+◌, ◌-◌, ◌<◌, ◌≤◌, if◌then◌else◌, true, false, List, [], ◌∷◌, length, get_or, set, drop, Option, Some, None, sym, ◌∙◌, ap, ap₂, subst, ⊎_elim, arith, nat_lt, add-one}
+use Rattle.std.proofs.Common.{◌≡◌, ℕ, zero, suc, ◌+◌, ◌<◌, ◌≤◌, if◌then◌else◌, true, false, List, [], ◌∷◌, length, get_or, drop, Some, None, sym, ◌∙◌, ap, subst, arith, nat_lt}
 use Rattle.std.proofs.lemmas.Bool.Decides.{nat_tests}
-use Rattle.std.proofs.lemmas.List.{drop_more, drop_all, length-set}
+use Rattle.std.proofs.lemmas.List.{drop_more, drop_all}
 use Rattle.std.specs.Option.{option_or, option_map}
-use Rattle.crn_fraction.specs.Rational.{ℚ, 0ℚ, ◌≤ℚ◌}
+use Rattle.crn_fraction.specs.Rational.{ℚ}
 use Rattle.crn_net.specs.Network as Plain
 use Rattle.crn_net.specs.Network.{Network, amount}
 use Rattle.crn_net.specs.declared.Flow.{Flow}
 use Rattle.crn_net.specs.Views.{parts_of}
 use Rattle.crn_net.specs.declared.Part.{Part}
-use Rattle.crn_segments.proofs.Amounts.{amount-set_same, amount-set_other}
-use Rattle.crn_segments.proofs.SignLaws.{is_not_negative}
 use Rattle.crn_segments.proofs.Products.{dropped}
 use Rattle.crn_segments.specs.Flows.{AreAscending}
-use Rattle.crn_segments.specs.Signs.{is_positive_ℚ, is_negative_ℚ}
-use Rattle.crn_segments.specs.Step.{first_absent, flow_refusal, flows_refusal, sum_of, sum_refusal, first_refusal, sums_refusal, AreSums}
+use Rattle.crn_segments.specs.Signs.{is_positive_ℚ}
+use Rattle.crn_segments.specs.Step.{first_absent, flow_refusal, flows_refusal}
 use Rattle.crn_segments.specs.declared.StepError.{StepError}
-use Rattle.crn_segments.specs.declared.StepError.TheVariants.{NoReaction, NotPresent, TooBig, TakesMore}
+use Rattle.crn_segments.specs.declared.StepError.TheVariants.{NoReaction, NotPresent}
 
 -- ---- parts
 
@@ -84,47 +82,3 @@ number_above low (g ∷ u) (suc i) f h l e =
     let above : g.reaction < f.reaction = number_above g.reaction u i f h.2 (omega arith) e in
     let first : low < g.reaction = h.0 in
     omega arith
-
--- ---- species
-
--- the species below s are summed, and nothing refused them
-pub record Filled (net : Network) (c : List ℚ) (u : List Flow) (next : List ℚ) (s : ℕ) : Type 0 where
-  pub left : sums_refusal net c u ≡ first_refusal (sum_of net c u) s (net.species + 1 - s)
-  pub sums : AreSums net c u s next
-  pub long : length next ≡ net.species
-
-pub filled_none : (net : Network) (c : List ℚ) (u : List Flow) (next : List ℚ) → length next ≡ net.species → Filled net c u next 1
-filled_none net c u next e =
-    let same : net.species ≡ net.species + 1 - 1 = omega arith in
-    record { left = ap (first_refusal (sum_of net c u) 1) same; sums = λ j low high. absurd (omega arith); long = e }
-
-module _ (net : Network) (c : List ℚ) (u : List Flow) (next : List ℚ) (s : ℕ) (low : 1 ≤ s) (high : s ≤ net.species) (e : Filled net c u next s) where
-  here : (o : Option ℚ) → sum_of net c u s ≡ o →
-      sums_refusal net c u ≡ option_or (sum_refusal s o) (first_refusal (sum_of net c u) (s + 1) (net.species + 1 - (s + 1)))
-  here o h =
-      let k : net.species + 1 - s ≡ suc (net.species + 1 - (s + 1)) = omega arith in
-      e.left ∙ ap (first_refusal (sum_of net c u) s) k ∙ ap₂ (λ x t. option_or (sum_refusal s x) (first_refusal (sum_of net c u) t (net.species + 1 - (s + 1)))) h (sym (add-one s))
-
-  pub filled_too_big : sum_of net c u s ≡ None → sums_refusal net c u ≡ Some (TooBig s)
-  filled_too_big h = here None h
-
-  pub filled_takes_more : (x : ℚ) → sum_of net c u s ≡ Some x → is_negative_ℚ x ≡ true → sums_refusal net c u ≡ Some (TakesMore s)
-  filled_takes_more x h t =
-      here (Some x) h ∙ ap (λ b. option_or (if b then Some (TakesMore s) else None) (first_refusal (sum_of net c u) (s + 1) (net.species + 1 - (s + 1)))) t
-
-  pub filled_more : (x : ℚ) → sum_of net c u s ≡ Some x → is_negative_ℚ x ≡ false → Filled net c u (set next (s - 1) x) (s + 1)
-  filled_more x h t = record {
-    left = here (Some x) h ∙ ap (λ b. option_or (if b then Some (TakesMore s) else None) (first_refusal (sum_of net c u) (s + 1) (net.species + 1 - (s + 1)))) t;
-    sums = λ j l k. ⊎_elim
-        (λ (same : j ≡ s). subst (λ q. (sum_of net c u q ≡ Some (amount (set next (s - 1) x) q)) × (0ℚ ≤ℚ amount (set next (s - 1) x) q)) (sym same)
-        (h ∙ ap Some (sym now), subst (λ y. 0ℚ ≤ℚ y) (sym now) (is_not_negative x t)))
-        (λ (earlier : j < s).
-        let as_before : amount (set next (s - 1) x) j ≡ amount next j = amount-set_other next s j x low (omega arith) in
-        let was : (sum_of net c u j ≡ Some (amount next j)) × (0ℚ ≤ℚ amount next j) = e.sums j l earlier in
-        (was.0 ∙ ap Some (sym as_before), subst (λ y. 0ℚ ≤ℚ y) (sym as_before) was.1))
-        (grind arith);
-    long = length-set next (s - 1) x ∙ e.long;
-  }
-    where
-      now : amount (set next (s - 1) x) s ≡ x
-      now = amount-set_same next s x low (subst (λ k. s ≤ k) (sym e.long) high)

@@ -4,11 +4,11 @@ use Rattle.crn_fraction.specs.Rational.{ℚ, 0ℚ, ◌≤ℚ◌, ◌<ℚ◌}
 use Rattle.crn_net.specs.Network.{Network, Run, IsLegal, IsNetwork, AreFlows, after, amount}
 use Rattle.crn_net.specs.declared.Flow.{Flow}
 use Rattle.crn_segments.proofs.SignLaws.{is_negative_ℚ_cases}
-use Rattle.crn_segments.proofs.Steps.{or_none, refusal_none, flows_exist, sum_is_after, went_legal, legal_goes}
+use Rattle.crn_segments.proofs.Steps.{AreSums, or_none, refusal_none, flows_exist, sum_is_after, went_legal, legal_goes}
 use Rattle.crn_segments.specs.Fits.{StepFits}
 use Rattle.crn_segments.specs.Flows.{IsSegment}
 use Rattle.crn_segments.specs.Signs.{is_negative_ℚ}
-use Rattle.crn_segments.specs.Step.{AreSums, sums_refusal, first_refusal, sum_refusal, sum_of, step_refusal}
+use Rattle.crn_segments.specs.Step.{sums_refusal, first_refusal, sum_refusal, sum_of, step_refusal}
 use Rattle.crn_segments.specs.Steps.{AreSegments, StepsGo, StepsFit}
 use Rattle.crn_segments.specs.declared.StepError.TheVariants.{TakesMore}
 

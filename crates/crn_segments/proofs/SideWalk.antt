@@ -28,11 +28,11 @@ and_false false = refl
 same_or_other : (a b : ℕ) → (a ≡ b) ⊎ (a ≢ b)
 same_or_other a b = grind arith
 
-none_left : (low n : ℕ) (ps : List Plain.Part) → AreParts low n ps → count_of ps low ≡ 0
+pub none_left : (low n : ℕ) (ps : List Plain.Part) → AreParts low n ps → count_of ps low ≡ 0
 none_left low n ps ok =
     ⊎_elim (λ (some : 0 < count_of ps low). let above = count_of_in_range low n ps low ok some in absurd (omega (arith, above.0))) (λ (none : count_of ps low ≡ 0). none) (grind arith)
 
-left_is : (ps : List Part) (i : ℕ) → i < length ps → parts_of (drop i ps) ≡ part_of (read ps i) ∷ parts_of (drop (i + 1) ps)
+pub left_is : (ps : List Part) (i : ℕ) → i < length ps → parts_of (drop i ps) ≡ part_of (read ps i) ∷ parts_of (drop (i + 1) ps)
 left_is ps i l = ap parts_of (drop_more ps i (record { species = 0; count = pos 0 }) l)
 
 -- the species of the part, and the others

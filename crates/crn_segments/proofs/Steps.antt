@@ -1,8 +1,7 @@
 -- A step is refused exactly where its segment is not legal or it does not fit.
-use Rattle.std.proofs.Common.{◌≡◌, ◌≢◌, ℕ, zero, suc, ◌+◌, ◌<◌, ◌≤◌, ◌&&◌, ◌||◌, ◌==◌, cond, pos, if◌then◌else◌, Bool, true, false, List, [], ◌∷◌, ◌++◌, take, drop, length, Option, Some, None, refl, sym, ◌∙◌, ap, ap₂, subst, ◌⊎◌, inl, inr, ⊎_elim, arith, nat_lt, ext_get_or}
+use Rattle.std.proofs.Common.{◌≡◌, ◌≢◌, ℕ, zero, suc, ◌+◌, ◌<◌, ◌≤◌, ◌&&◌, ◌||◌, ◌==◌, cond, pos, if◌then◌else◌, Bool, true, false, List, [], ◌∷◌, length, Option, Some, None, refl, sym, ◌∙◌, ap, ap₂, subst, ◌⊎◌, inl, inr, ⊎_elim, arith, nat_lt, ext_get_or}
 use Rattle.std.proofs.lemmas.Bool.Decides.{nat_tests}
 use Rattle.std.proofs.lemmas.List.FromFn.{length-map-range_with_len}
-use Rattle.std.proofs.lemmas.List.{take_at}
 use Rattle.std.specs.Option.{option_or, option_map}
 use Rattle.crn_fraction.proofs.Linear.{not_<ℚ, <ℚ-≤ℚ_trans, +ℚ-≤ℚ_left, +ℚ-≤ℚ}
 use Rattle.crn_fraction.proofs.Order.{≤ℚ_refl, ≤ℚ_of_<ℚ}
@@ -19,7 +18,7 @@ use Rattle.crn_segments.proofs.SignLaws.{positive_is, not_negative_is, frac_is, 
 use Rattle.crn_segments.specs.Progress.{Progress}
 use Rattle.crn_segments.specs.Flows.{AreAscending, IsSegment}
 use Rattle.crn_segments.specs.Signs.{is_positive_ℚ, is_frac}
-use Rattle.crn_segments.specs.Step.{first_absent, flow_refusal, flows_refusal, fitting_sum, sum_of, sum_refusal, first_refusal, sums_refusal, step_refusal, AreSums}
+use Rattle.crn_segments.specs.Step.{first_absent, flow_refusal, flows_refusal, fitting_sum, sum_of, sum_refusal, first_refusal, sums_refusal, step_refusal}
 use Rattle.crn_segments.specs.Fits.{SumFits, StepFits, flows_of, is_on_side}
 use Rattle.crn_segments.specs.declared.StepError.{StepError}
 use Rattle.crn_segments.specs.declared.StepError.TheVariants.{NoReaction, NotPresent, TakesMore}
@@ -182,6 +181,10 @@ added_sides net s a (f ∷ fs) =
     ap (λ x. added a (change net s) (with x)) t.0 ∙ added_sides net s a fs ∙ ap (λ x. added x (change net s) fs) same)
     (side_cases net f.reaction s)
 
+-- the amounts d are the sums of the species below s, and not negative
+abbrev pub AreSums : Network → List ℚ → List Flow → ℕ → List ℚ → Type 0
+AreSums net c u s d = (j : ℕ) → 1 ≤ j → j < s → (sum_of net c u j ≡ Some (amount d j)) × (0ℚ ≤ℚ amount d j)
+
 -- the sum of a species, where it fits, is its amount after the segment
 pub sum_is_after : (net : Network) (c : List ℚ) (u : List Flow) (s : ℕ) (b : ℚ) → AreFlows (length net.reactions) u → 1 ≤ s → s ≤ net.species → sum_of net c u s ≡ Some b →
     (amount (after net c u) s ≡ b) × SumFits (change net s) (amount c s) (flows_of net s u)
@@ -253,7 +256,3 @@ module _ (p : Progress) (net : Network) (c : List ℚ) (same : record { network 
       let made : Progress = record { network = net; state = next } in
       subst (λ (q : Progress). made ≡ record q { state = after q.network q.state u }) same
       (ap (λ d. let made : Progress = record { network = net; state = d } in made) (sums_are_after net c next u flows long sums))
-
--- what a vector holds after a slice of it was written
-pub written_back : (n : ℕ) (xs ys : List ℚ) → length ys ≡ length xs → length xs ≡ n → take n (ys ++ drop (length ys) xs) ≡ ys
-written_back n xs ys e l = take_at ys (drop (length ys) xs) n (e ∙ l)

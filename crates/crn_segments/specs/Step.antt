@@ -1,8 +1,8 @@
 -- What refuses a step, in the order in which it is looked for.
-use Rattle.std.specs.Prelude.{◌≡◌, ℕ, zero, suc, ◌≤◌, ◌<◌, ◌&&◌, ◌||◌, Bool, nat_lt, if◌then◌else◌, List, [], ◌∷◌, length, Option, Some, None, Result, MatchResult}
+use Rattle.std.specs.Prelude.{◌≡◌, ℕ, zero, suc, ◌&&◌, nat_lt, if◌then◌else◌, List, [], ◌∷◌, length, Option, Some, None, Result, MatchResult}
 use Rattle.std.specs.Option.{option_or, option_map}
-use Rattle.crn_fraction.specs.Rational.{ℚ, 0ℚ, ◌+ℚ◌, ◌*ℚ◌, ◌≤ℚ◌}
-use Rattle.crn_net.specs.Network.{Network, Reaction, Part, AreParts, amount, numbered, count_of}
+use Rattle.crn_fraction.specs.Rational.{ℚ, ◌+ℚ◌, ◌*ℚ◌}
+use Rattle.crn_net.specs.Network.{Network, Part, AreParts, amount, numbered}
 use Rattle.crn_net.specs.Totals.{change}
 use Rattle.crn_net.specs.declared.Flow.{Flow}
 use Rattle.crn_segments.specs.Fits.{flows_of}
@@ -54,14 +54,6 @@ step_refusal net c u = option_or (flows_refusal net c u) (sums_refusal net c u)
 -- a call answers `Ok` where nothing refuses, and else the refusal
 abbrev pub Answers : {T E : Type 0} → Result T E → Option E → Type 0
 Answers r o = MatchResult r (λ _. o ≡ None) (λ e. o ≡ Some e)
-
--- the amounts d are the sums of the species below s, and not negative
-abbrev pub AreSums : Network → List ℚ → List Flow → ℕ → List ℚ → Type 0
-AreSums net c u s d = (j : ℕ) → 1 ≤ j → j < s → (sum_of net c u j ≡ Some (amount d j)) × (0ℚ ≤ℚ amount d j)
-
--- whether species s is on a side of the reaction
-abbrev pub is_in : Reaction → ℕ → Bool
-is_in r s = nat_lt 0 (count_of r.takes s) || nat_lt 0 (count_of r.gives s)
 
 -- parts in ascending order of species
 abbrev pub IsSide : List Part → Type 0

@@ -15,7 +15,7 @@ ghost use Rattle.crn_net.specs.Limits.{IsWithinLimits};
 ghost use Rattle.crn_segments.specs.Fits.{flows_of, StepFits};
 ghost use Rattle.crn_segments.specs.Signs.{is_positive_ℚ, is_negative_ℚ};
 ghost use Rattle.crn_segments.specs.Flows.{IsSegment, AreAscending};
-ghost use Rattle.crn_segments.specs.Step.{Answers, is_in, flow_refusal, flows_refusal, fitting_sum, sums_refusal, step_refusal, AreSums, IsSide};
+ghost use Rattle.crn_segments.specs.Step.{Answers, flow_refusal, flows_refusal, step_refusal};
 
 use crn_fraction::Frac;
 pub use crn_net::Flow;
@@ -31,12 +31,16 @@ mod work;
 /// Why a step is refused. `reaction` is the number that a flow names, and `species` counts from 1.
 #[derive(Clone, Copy, Debug, PartialEq, Eq, Error)]
 pub enum StepError {
+    /// The network has no such reaction.
     #[error("there is no reaction {reaction}")]
     NoReaction { reaction: u64 },
+    /// A reactant is absent before the segment: the least, of the first reaction that lacks one.
     #[error("reaction {reaction} needs species {species}, of which there is none before the segment")]
     NotPresent { reaction: u64, species: u32 },
+    /// A product, or a partial sum, does not fit a `Frac`.
     #[error("a number for species {species} is too big")]
     TooBig { species: u32 },
+    /// The amount would become negative.
     #[error("more of species {species} is taken than is there")]
     TakesMore { species: u32 },
 }
@@ -72,6 +76,7 @@ impl Segment {
         }
     }
 
+    /// The flows, in ascending order of reaction.
     pub fn flows(&self) -> &[Flow]
         ensures value { result.now ≡ self.now }
         ensures valid { IsSegment self.now }
@@ -136,6 +141,7 @@ impl State {
         self.amounts[place] = amount;
     }
 
+    /// The amount of a species, which is never negative.
     pub fn amount(&self, species: u32) -> Frac
         requires low { 1 ≤ species }
         requires high { species ≤ length self.now }
@@ -245,6 +251,7 @@ impl<'a> Replay<'a> {
         self.apply(&[flow])
     }
 
+    /// The state that the steps so far led to.
     pub fn state(&self) -> &State
         ensures value { result.now ≡ self.now.state }
         ensures valid { IsState self.now.network self.now.state }

@@ -1,9 +1,8 @@
-ghost use Rattle.std.specs.Prelude.{◌≡◌, ◌≢◌, ◌≤◌, ◌==◌, ◌-ℤ◌, ℕ, List, [], length, replicate, pos, Some, IfOk};
+ghost use Rattle.std.specs.Prelude.{◌≡◌, ◌≢◌, ◌≤◌, ◌==◌, ℕ, List, [], drop, length, replicate, pos, Some, IfOk};
 ghost use Rattle.std.specs.Vec.{vec_capacity};
 ghost use Rattle.crn_segments.specs.declared.work.Mark.TheVariants.{Untouched};
 ghost use Rattle.crn_fraction.specs.Rational.{ℚ, 0ℚ, ◌*ℚ◌, ◌≤ℚ◌, whole};
-ghost use Rattle.crn_net.specs.Network.{IsReaction, IsNotNegative, AreParts, AreFlows, amount};
-ghost use Rattle.crn_net.specs.Network as Plain;
+ghost use Rattle.crn_net.specs.Network.{IsReaction, IsNotNegative, AreParts, AreFlows, amount, count_of};
 ghost use Rattle.crn_net.specs.Limits.{IsWithinLimits};
 ghost use Rattle.crn_net.specs.Totals.{change};
 ghost use Rattle.crn_net.specs.Views.{parts_of, reaction_of};
@@ -99,9 +98,12 @@ impl Sums {
         ensures room { IsRoom (length state.now) self.new }
         ensures sums { (s : ℕ) → sum_in self.new state.now s ≡ sum_where (is_new (parts_of parts.now) (parts_of seen.now) s) (gained (reaction_of reaction.now) flux s) (sum_in self.old state.now s) }
     {
+        let (mut seen_from, mut gives_from, mut takes_from) = (0, 0, 0);
         for part in parts {
-            if count_of(seen, part.species) == 0 {
-                self.add(part.species, flux, gain(reaction, part.species), state);
+            if count_from(seen, &mut seen_from, part.species) == 0 {
+                let given = count_from(&reaction.gives, &mut gives_from, part.species);
+                let taken = count_from(&reaction.takes, &mut takes_from, part.species);
+                self.add(part.species, flux, given - taken, state);
             }
         }
     }
@@ -222,23 +224,21 @@ fn sum_with(sum: Frac, flux: Frac, gain: i64) -> Option<Frac>
     Some(next)
 }
 
-// How many of the species the parts have.
-fn count_of(parts: &[Part], species: u32) -> i64
-    requires { IsSide (parts_of parts.now) }
-    ensures { result ≡ pos (Plain.count_of (parts_of parts.now) species) }
+// How many of the species the parts have from a place on. The place moves on to the species, so that ascending species are counted in one walk.
+fn count_from(parts: &[Part], from: &mut usize, species: u32) -> i64
+    requires { IsSide (parts_of (drop from.old parts.now)) }
+    ensures count { result ≡ pos (count_of (parts_of (drop from.old parts.now)) species) }
+    ensures side { IsSide (parts_of (drop from.new parts.now)) }
+    ensures later { (t : ℕ) → species ≤ t → count_of (parts_of (drop from.new parts.now)) t ≡ count_of (parts_of (drop from.old parts.now)) t }
 {
-    for part in parts {
+    while let Some(part) = parts.get(*from) {
+        if part.species > species {
+            return 0;
+        }
         if part.species == species {
             return part.count;
         }
+        *from += 1;
     }
     0
-}
-
-// How many of the species a reaction gives, less how many it takes.
-fn gain(reaction: &Reaction, species: u32) -> i64
-    requires { (n : ℕ) × IsReaction n (reaction_of reaction.now) }
-    ensures { result ≡ pos (Plain.count_of (parts_of reaction.now.gives.items) species) -ℤ pos (Plain.count_of (parts_of reaction.now.takes.items) species) }
-{
-    count_of(&reaction.gives, species) - count_of(&reaction.takes, species)
 }

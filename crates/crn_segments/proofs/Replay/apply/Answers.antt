@@ -1,10 +1,10 @@
 use Rattle.std.proofs.Common.{◌≡◌, ◌+◌, length, refl, sym, ◌∙◌, subst, None, Some}
 use Rattle.std.proofs.lemmas.Result.{err_from_is_err_and}
 use Rattle.crn_net.specs.Network.{AreFlows, IsNotNegative, after}
-use Rattle.crn_segments.specs.Step.{sums_refusal, first_refusal, AreSums}
+use Rattle.crn_segments.specs.Step.{sums_refusal, first_refusal}
 use Rattle.crn_segments.specs.Sums.{IsReady, sum_in}
 use Rattle.crn_segments.proofs.Applied.{refused_as, going, settled_sums}
-use Rattle.crn_segments.proofs.Steps.{refused_flows, refused_sums, went_legal, flows_exist, sums_are_after, shown_refusal, shown_legal, shown_not_legal, shown_after}
+use Rattle.crn_segments.proofs.Steps.{AreSums, refused_flows, refused_sums, went_legal, flows_exist, sums_are_after, shown_refusal, shown_legal, shown_not_legal, shown_after}
 use Rattle.crn_segments.proofs.Replay.apply.Goals as goal
 use Rattle.crn_segments.proofs.Replay.apply.Goals.{In_ok-check_flows, In-Ok, In-Err, After-settle}
 
