@@ -18,3 +18,5 @@ pub mod InputLists
 pub mod Turns
 pub mod MinimumRun
 pub mod Causes
+pub mod FewReactions
+pub mod TakersTable

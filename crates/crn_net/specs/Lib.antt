@@ -6,3 +6,5 @@ pub mod Limits
 pub mod Causes
 pub mod Minimum
 pub mod Inputs
+pub mod Takers
+pub mod Kept

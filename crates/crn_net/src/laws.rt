@@ -3,7 +3,7 @@ ghost use Rattle.std.specs.Prelude.{◌≡◌, ◌≢◌, ◌++◌, ◌≤◌, �
 ghost use Rattle.crn_fraction.specs.Rational.{ℚ, whole};
 ghost use Rattle.crn_net.specs.Network.{Network, Reaction, Flow, completion, output, AreReactions, IsNetwork, IsState, IsNotNegative, IsFeedForward, AreFlows, AreNotNegative, Run, IsSettled, StablyComputes, amount, after, after_all, start, value_at, greatest_flux};
 ghost use Rattle.crn_net.specs.Totals.{Leads, total, IsGreatest, IsComplete, IsConfluent, IsExhausted, FirstLack, AreUntaken, made_by, made_in, added, change};
-ghost use Rattle.crn_net.specs.Reactions.{FeedsForward, given_all};
+ghost use Rattle.crn_net.specs.Reactions.{EachReaction, FeedsForward, given_all};
 ghost use Rattle.crn_net.specs.Limits.{IsValid};
 ghost use Rattle.crn_net.specs.Causes.{IsCause};
 ghost use Rattle.crn_net.specs.declared.NetworkError.{NetworkError};
@@ -37,9 +37,10 @@ pub fn greatest_fluxes()
     ensures { (net : Network) → AreReactions net → (r : ℕ) → 1 ≤ r → r ≤ length net.reactions → (c : List ℚ) → IsGreatest net r c (greatest_flux net r (amount c)) }
 {}
 
-/// Reactions that feed forward along their list make a feed-forward network.
+/// Reactions that feed forward along their list make a feed-forward network, and are no more than its species.
 pub fn lists_feed_forward()
-    ensures { (net : Network) → FeedsForward net.reactions → IsFeedForward net }
+    ensures network { (net : Network) → FeedsForward net.reactions → IsFeedForward net }
+    ensures few { (n : ℕ) (rs : List Reaction) → FeedsForward rs → EachReaction n rs → length rs ≤ n }
 {}
 
 /// In a feed-forward network the completion is a run, after which each reaction lacks a reactant.

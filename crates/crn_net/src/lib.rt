@@ -9,15 +9,18 @@ ghost use Rattle.crn_net.specs.Network.{IsNetwork, IsReaction, numbered};
 ghost use Rattle.crn_net.specs.Views.{network_of, reaction_of};
 ghost use Rattle.crn_net.specs.Limits.{IsWithinLimits, IsValid};
 ghost use Rattle.crn_net.specs.Causes.{IsCause};
+ghost use Rattle.crn_net.specs.Takers.{takers_of};
 ghost use Rattle.crn_net.specs.declared.NetworkError.TheVariants.{Memory};
 
 use crn_fraction::Frac;
-use std::alloc::Global;
+use std::alloc::{AllocError, Global};
 use std::marker::Model;
+use takers::Takers;
 use thiserror::Error;
 
 mod checks;
 pub mod laws;
+mod takers;
 
 /// Whether a number is the difference of the amounts of two species, or the amount of one.
 #[derive(Clone, Copy, Debug, PartialEq, Eq)]
@@ -87,10 +90,21 @@ pub enum NetworkError {
     Memory,
 }
 
+impl From<AllocError> for NetworkError {
+    ghost use Rattle.crn_net.specs.declared.NetworkError.TheVariants.{Memory};
+
+    ghost from_gives = { λ _ e. e ≡ Memory };
+
+    fn from(_error: AllocError) -> NetworkError {
+        NetworkError::Memory
+    }
+}
+
 /// A valid network.
 #[derive(Debug, Drop)]
 pub struct Network {
     parts: Parts,
+    takers: Takers,
 }
 
 impl Model for Network {
@@ -99,11 +113,11 @@ impl Model for Network {
     ghost Value = { Plain.Network };
 
     ghost use Rattle.crn_net.specs.Views.{network_of};
-    ghost use Rattle.crn_net.specs.Limits.{IsValid};
+    ghost use Rattle.crn_net.specs.Kept.{IsKept};
 
     ghost view = { λ n. network_of n.parts };
 
-    ghost invariant = { λ n. IsValid (network_of n.parts) };
+    ghost invariant = { λ n. IsKept (network_of n.parts) n.takers.starts.items n.takers.numbers.items };
 }
 
 impl Network {
@@ -114,7 +128,8 @@ impl Network {
         ensures valid { IsValid (network_of parts) → IfErr result (λ e. e ≡ Memory) }
     {
         checks::check(&parts)?;
-        Ok(Network { parts })
+        let takers = Takers::of(alloc, parts.species, &parts.reactions)?;
+        Ok(Network { parts, takers })
     }
 
     pub fn rails(&self) -> Rails
@@ -149,6 +164,15 @@ impl Network {
         ensures valid { IsReaction self.now.species (reaction_of result.now) }
     {
         &self.parts.reactions[number as usize - 1]
+    }
+
+    /// The reactions that take the species, in ascending order.
+    pub fn takers(&self, species: u32) -> &[u32]
+        requires low { 1 ≤ species }
+        requires high { species ≤ self.now.species }
+        ensures { result.now ≡ takers_of self.now species }
+    {
+        self.takers.at(species)
     }
 
     pub fn inputs(&self) -> &[Ends]

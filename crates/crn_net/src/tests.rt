@@ -63,6 +63,24 @@ fn the_minimum_of_two_variables(rt: HostRuntime) -> Result<(), Fail> {
     assert!(rt; network.inputs() == [Ends::Pair(1, 2), Ends::Pair(3, 4)].as_slice());
     assert!(rt; network.output() == Ends::Pair(15, 16));
     assert!(rt; network.context() == None);
+    assert!(rt; network.takers(1) == [1].as_slice());
+    assert!(rt; network.takers(12) == [10].as_slice());
+    assert!(rt; network.takers(14) == [13].as_slice());
+    assert!(rt; network.takers(16).is_empty());
+    Ok(())
+}
+
+#[test]
+fn takers_ascend(rt: HostRuntime) -> Result<(), Fail> {
+    let mut parts = minimum(rt.alloc())?;
+    parts.reactions.push(Reaction {
+        takes: vec![in rt.alloc(); one(1), one(12)]?,
+        gives: vec![in rt.alloc(); one(1)]?,
+    })?;
+    let network = Network::make(rt.alloc(), parts)?;
+    assert_eq!(rt; network.species(), 16);
+    assert!(rt; network.takers(1) == [1, 14].as_slice());
+    assert!(rt; network.takers(12) == [10, 14].as_slice());
     Ok(())
 }
 

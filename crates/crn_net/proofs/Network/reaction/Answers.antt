@@ -7,5 +7,5 @@ returns-clause-value c =
 
 pub returns-clause-valid : goal.returns-clause-valid
 returns-clause-valid c =
-    reaction_valid c.self.inside.parts c.args.self.now c.index.result.now c.args.number c.self.view_is c.self.invariant.network c.requires.low c.requires.high
+    reaction_valid c.self.inside.parts c.args.self.now c.index.result.now c.args.number c.self.view_is c.self.invariant.valid.network c.requires.low c.requires.high
     (reaction_at c.self.inside.parts c.args.self.now c.index.result.now c.args.number c.self.view_is c.requires.low c.requires.high c.index.ensures)
