@@ -12,3 +12,6 @@ pub mod OneRail
 pub mod Chain
 pub mod Settled
 pub mod MinimumComputes
+pub mod GateCalls
+pub mod FanCalls
+pub mod Drafting

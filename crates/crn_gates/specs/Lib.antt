@@ -5,3 +5,7 @@ pub mod Building
 pub mod Values
 pub mod Lesser
 pub mod MinimumLayout
+pub mod Pairs
+pub mod Drafts
+pub mod Calls
+pub mod Stamps
