@@ -1,0 +1,9 @@
+pub mod Copies
+pub mod Leaves
+pub mod Laying
+pub mod LayoutLaws
+pub mod Keeping
+pub mod Agreeing
+pub mod Loops
+pub mod Compiling
+pub mod Sizes

@@ -1,0 +1,11 @@
+use Rattle.std.proofs.Common.{◌≡◌, length, take, drop}
+use Rattle.std.specs.List.{zip}
+use Rattle.std.specs.Vec.Iter.{into_iter_items}
+use Rattle.crn_dual.specs.OnCopies.{nonzero}
+use Rattle.crn_dual.proofs.compile.terms_on.Given as goal
+
+-- the terms so far are those of the first columns
+abbrev pub invariant-loop-column : goal.invariant-loop-column
+invariant-loop-column l =
+    (l.terms.items ≡ zip (nonzero (take l.column l.form)) (into_iter_items l.initial.copies))
+    × (into_iter_items l.copies ≡ drop (length (nonzero (take l.column l.form))) (into_iter_items l.initial.copies))
