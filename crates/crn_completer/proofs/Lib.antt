@@ -1,0 +1,5 @@
+pub mod Quotients
+pub mod Turns
+pub mod Fitting
+pub mod InTurn
+pub mod Confluence
