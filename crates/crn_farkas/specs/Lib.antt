@@ -1,0 +1,3 @@
+pub mod Mixtures
+pub mod Systems
+pub mod Rooms

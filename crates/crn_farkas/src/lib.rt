@@ -1,0 +1,215 @@
+//! Systems of weak and strict rows, and certificates that no point meets a system.
+#![tactic(auto)]
+
+ghost use Rattle.std.specs.Prelude.{◌≡◌, ℕ, ◌<◌, ◌≤◌, ◌≤ℤ◌, ◌<ℤ◌, ◌^◌, ◌↔◌, pos, ◌*ℤ◌, unsigned_abs, [], length, slice_index_or, IsTrue, IfOk};
+ghost use Rattle.std.specs.List.{All};
+ghost use Rattle.crn_linear.specs.Forms.{wholes};
+ghost use Rattle.crn_linear.specs.Rows.{dot, IsSmall, AreSmall, MeetsWhole};
+ghost use Rattle.crn_farkas.specs.Systems.{IsPoint, IsWholePoint, HasNoPoint, HasStrict, IsCertificate, column};
+ghost use Rattle.crn_farkas.specs.Rooms.{IsSystem, with_row, kept};
+
+use crn_linear::{Point, Row, Strength};
+use std::alloc::{AllocError, Global};
+use std::marker::Model;
+
+pub mod laws;
+
+/// A number of columns, and at most 256 rows of that length.
+#[derive(Debug, Drop)]
+pub struct System {
+    columns: usize,
+    room: usize,
+    rows: Vec<Row>,
+}
+
+impl Model for System {
+    ghost use Rattle.std.specs.Vec.{vec_capacity};
+    ghost use Rattle.crn_farkas.specs.Rooms.{WithRoom, IsReserved, kept};
+
+    ghost Value = { WithRoom };
+
+    ghost view = { λ s. kept s.columns s.room s.rows.items };
+
+    ghost invariant = { λ s. IsReserved (kept s.columns s.room s.rows.items) (vec_capacity s.rows) };
+}
+
+impl System {
+    /// A system without rows, and room for so many.
+    pub fn with_room(alloc: Global, columns: usize, room: usize) -> Result<System, AllocError>
+        requires some_columns { 1 ≤ columns }
+        requires few_columns { columns ≤ 9 }
+        requires few_rows { room ≤ 256 }
+        ensures { IfOk result (λ s. s ≡ kept columns room []) }
+    {
+        let rows = Vec::with_capacity(alloc, room)?;
+        Ok(System {
+            columns,
+            room,
+            rows,
+        })
+    }
+
+    /// Adds a row behind the others, in the room that is there.
+    pub fn push(&mut self, row: Row)
+        requires length { length row.entries ≡ self.old.system.columns }
+        requires room { length self.old.system.rows < self.old.room }
+        ensures { self.new ≡ with_row self.old row }
+    {
+        self.rows.push_reserved(row);
+    }
+
+    /// The number of columns.
+    pub fn columns(&self) -> usize
+        ensures value { result ≡ self.now.system.columns }
+        ensures valid { IsSystem self.now }
+    {
+        self.columns
+    }
+
+    /// The rows, as they were added.
+    pub fn rows(&self) -> &[Row]
+        ensures value { result.now ≡ self.now.system.rows }
+        ensures valid { IsSystem self.now }
+    {
+        &self.rows
+    }
+}
+
+/// A multiplier for each row of a system, of size at most 2^59. That they are a certificate of the system is for `check` to say.
+#[derive(Debug, Drop)]
+pub struct Certificate {
+    multipliers: Vec<i64>,
+}
+
+impl Model for Certificate {
+    ghost use Rattle.std.specs.Prelude.{List, ℤ};
+    ghost use Rattle.crn_linear.specs.Rows.{AreSmall};
+
+    ghost Value = { List ℤ };
+
+    ghost view = { λ c. c.multipliers.items };
+
+    ghost invariant = { λ c. AreSmall c.multipliers.items };
+}
+
+impl Certificate {
+    /// These multipliers.
+    pub fn of(multipliers: Vec<i64>) -> Certificate
+        requires { AreSmall multipliers.items }
+        ensures { result ≡ multipliers.items }
+    {
+        Certificate { multipliers }
+    }
+
+    /// The multipliers, row by row.
+    pub fn multipliers(&self) -> &[i64]
+        ensures value { result.now ≡ self.now }
+        ensures small { AreSmall self.now }
+    {
+        &self.multipliers
+    }
+}
+
+/// Whether these multipliers are a certificate of the system. Then no point meets it: this is the easy direction of Motzkin's
+/// transposition theorem.
+pub fn check(system: &System, certificate: &Certificate) -> bool
+    ensures exact { IsTrue result ↔ IsCertificate system.now.system certificate.now }
+    ensures excludes { IsTrue result → HasNoPoint system.now.system }
+{
+    let rows = system.rows();
+    let multipliers = certificate.multipliers();
+    multipliers.len() == rows.len()
+        && are_nonnegative(multipliers)
+        && has_strict(rows, multipliers)
+        && sums_are_zero(rows, multipliers, system.columns())
+}
+
+/// Whether the point meets each row.
+pub fn holds(system: &System, point: &Point) -> bool
+    requires { length point.now ≡ system.now.system.columns }
+    ensures exact { IsTrue result ↔ IsWholePoint system.now.system point.now }
+    ensures rational { IsTrue result ↔ IsPoint system.now.system (wholes point.now) }
+{
+    for row in system.rows() {
+        if !meets(row, point) {
+            return false;
+        }
+    }
+    true
+}
+
+fn meets(row: &Row, point: &Point) -> bool
+    requires { length row.now.entries ≡ length point.now }
+    ensures { IsTrue result ↔ MeetsWhole row.now point.now }
+{
+    let sign = row.sign_at(point);
+    match row.strength() {
+        Strength::Weak => sign.is_ge(),
+        Strength::Strict => sign.is_gt(),
+    }
+}
+
+fn are_nonnegative(multipliers: &[i64]) -> bool
+    ensures { IsTrue result ↔ All (λ m. pos 0 ≤ℤ m) multipliers.now }
+{
+    multipliers.iter().all(|multiplier| *multiplier >= 0)
+}
+
+// Whether some strict row has a positive multiplier.
+fn has_strict(rows: &[Row], multipliers: &[i64]) -> bool
+    requires { length multipliers.now ≡ length rows.now }
+    ensures { IsTrue result ↔ HasStrict rows.now multipliers.now }
+{
+    for i in 0..rows.len() {
+        let row = &rows[i];
+        if row.strength() == Strength::Strict && multipliers[i] > 0 {
+            return true;
+        }
+    }
+    false
+}
+
+// Whether the multiples of the rows add up to 0 in each column.
+fn sums_are_zero(rows: &[Row], multipliers: &[i64], columns: usize) -> bool
+    requires one_each { length multipliers.now ≡ length rows.now }
+    requires few { length rows.now ≤ 256 }
+    requires small { AreSmall multipliers.now }
+    requires lengths { All (λ r. length r.entries ≡ columns) rows.now }
+    ensures { IsTrue result ↔ ((v : ℕ) → v < columns → dot multipliers.now (column v rows.now) ≡ pos 0) }
+{
+    for v in 0..columns {
+        if column_sum(rows, multipliers, v) != 0 {
+            return false;
+        }
+    }
+    true
+}
+
+// The sum of the multiples in a column. Each of the at most 256 products of two numbers of size at most 2^59 is at most 2^118
+// in size, so that each partial sum is at most 2^126 and fits 128 bits.
+fn column_sum(rows: &[Row], multipliers: &[i64], v: usize) -> i128
+    requires one_each { length multipliers.now ≡ length rows.now }
+    requires few { length rows.now ≤ 256 }
+    requires small { AreSmall multipliers.now }
+    requires column { All (λ r. v < length r.entries) rows.now }
+    ensures { result ≡ dot multipliers.now (column v rows.now) }
+{
+    let mut sum = 0i128;
+    for i in 0..rows.len() {
+        let row = &rows[i];
+        sum += product(multipliers[i], row.entry(v));
+    }
+    sum
+}
+
+fn product(a: i64, b: i64) -> i128
+    requires left { IsSmall a }
+    requires right { IsSmall b }
+    ensures value { result ≡ a *ℤ b }
+    ensures small { unsigned_abs result ≤ 2 ^ 118 }
+{
+    a as i128 * b as i128
+}
+
+#[cfg(test)]
+mod tests;
