@@ -1,0 +1,21 @@
+-- The direction of a row, as the code finds it.
+use Rattle.std.proofs.Common.{◌≡◌, ℕ, List, [], ◌∷◌, length, get_or, refl, ap₂, arith}
+use Rattle.std.specs.Prelude.{ℤ, pos, int_div, ◌+ℤ◌, ◌*ℤ◌}
+use Rattle.std.proofs.lemmas.Int.{ints}
+use Rattle.crn_farkas.specs.Mixtures.{mixed}
+use Rattle.crn_feasible.specs.Elimination.{common, direction}
+use Rattle.crn_feasible.proofs.Points.{get_or-over}
+use Rattle.crn_feasible.proofs.Certificates.{length-over}
+
+-- once a list and not at all another
+pub mixed-one : (xs : List ℤ) → mixed (pos 1) xs (pos 0) xs ≡ xs
+mixed-one [] = refl
+mixed-one (x ∷ xs) = let e : pos 1 *ℤ x +ℤ pos 0 *ℤ x ≡ x = omega (arith, ints) in ap₂ (λ y ys. y ∷ ys) e (mixed-one xs)
+
+pub length-direction : (xs : List ℤ) → length (direction xs) ≡ length xs
+unfolding direction
+length-direction xs = length-over (common xs) xs
+
+pub get_or-direction : (xs : List ℤ) (i : ℕ) → get_or (direction xs) i (pos 0) ≡ int_div (get_or xs i (pos 0)) (pos (common xs))
+unfolding direction
+get_or-direction xs i = get_or-over (common xs) xs i

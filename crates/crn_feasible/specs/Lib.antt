@@ -1,0 +1,4 @@
+pub mod Elimination
+pub mod Steps
+pub mod Chosen
+pub mod Answers

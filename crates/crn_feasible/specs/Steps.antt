@@ -1,0 +1,97 @@
+-- What the steps of the code answer, in the words of elimination.
+use Rattle.std.specs.Prelude.{◌≡◌, ℕ, ◌≤◌, ◌-◌, Bool, true, false, cond, ℤ, pos, List, length, map, take, drop, Result, Ok, Err}
+use Rattle.std.specs.List.{All, list_all}
+use Rattle.crn_linear.specs.Rows.{Row, AreSmall}
+use Rattle.crn_linear.specs.Views.{padded}
+use Rattle.crn_farkas.specs.Mixtures.{mixed}
+use Rattle.crn_feasible.specs.declared.rows.Ending.{Ending}
+use Rattle.crn_feasible.specs.declared.rows.Ending.TheVariants.{Refuted, TooBig, TooManyRows, Memory}
+use Rattle.crn_feasible.specs.declared.rows.Direction.{Direction}
+use Rattle.crn_feasible.specs.declared.rows.KeptRow.{KeptRow}
+use Rattle.crn_feasible.specs.declared.rows.RowList.{RowList}
+use Rattle.crn_feasible.specs.Elimination.{Stop, refuted, passes, too_many, Kept, common, over, fits, direction, unit}
+
+-- the definition ends as the code does
+abbrev pub Ends : {A : Type 0} → Result A Stop → Ending → Type 0
+Ends r (Refuted c) = r ≡ Err (refuted c)
+Ends r TooBig = r ≡ Err passes
+Ends r TooManyRows = r ≡ Err too_many
+Ends r Memory = Unit {0}
+
+-- the definition answers what is seen of the code's answer, or ends as it does
+abbrev pub Goes : {A B : Type 0} → Result A Ending → (A → B) → Result B Stop → Type 0
+Goes (Ok a) seen r = r ≡ Ok (seen a)
+Goes (Err e) seen r = Ends r e
+
+-- ---- rows
+-- a row by its numbers: the entries and then the multipliers
+abbrev pub kept : (columns : ℕ) → List ℤ → (strict : Bool) → Kept
+kept columns numbers strict = record {
+  row = record { entries = take columns numbers; strict = strict };
+  multipliers = drop columns numbers;
+}
+
+-- a row of the code as elimination has it
+abbrev pub kept_of : (columns : ℕ) → KeptRow → Kept
+kept_of columns r = kept columns r.numbers.items r.strict
+
+-- as many numbers as the columns and the rows of the system, all small
+pub record IsKeptRow (width : ℕ) (r : KeptRow) : Type 0 where
+  pub long : length r.numbers.items ≡ width
+  pub small : AreSmall r.numbers.items
+
+-- a times the first row plus b times the second
+abbrev pub mixed_rows : (a : ℤ) → Kept → (b : ℤ) → Kept → Kept
+mixed_rows a p b n = record {
+  row = record { entries = mixed a p.row.entries b n.row.entries; strict = cond p.row.strict true n.row.strict };
+  multipliers = mixed a p.multipliers b n.multipliers;
+}
+
+-- the row of this number among so many, with multiplier 1 for itself
+abbrev pub first_row : Row → (index count : ℕ) → Kept
+first_row row index count = record { row = row; multipliers = unit index (count - index - 1) }
+
+-- the numbers over their greatest common divisor, all small, or one of them is not
+abbrev pub Combines : {A : Type 0} → Result A Ending → (numbers out : List ℤ) → Type 0
+Combines (Ok u) numbers out = (out ≡ over (common numbers) numbers) × AreSmall out
+Combines (Err (Refuted c)) numbers out = ⊥
+Combines (Err TooBig) numbers out = list_all fits (over (common numbers) numbers) ≡ false
+Combines (Err TooManyRows) numbers out = ⊥
+Combines (Err Memory) numbers out = Unit {0}
+
+-- ---- lists
+-- the rows of a list
+abbrev pub list_of : RowList → List Kept
+list_of l = map (kept_of l.columns) l.rows.items
+
+-- what is kept of a direction and a strength, with 0 past the last column
+abbrev pub direction_of : List ℤ → (strict : Bool) → Direction
+direction_of entries strict = record { entries = padded (pos 0) (direction entries); strict = strict }
+
+-- the direction of a row of so many columns
+abbrev pub row_direction : (columns : ℕ) → KeptRow → Direction
+row_direction columns r = direction_of (take columns r.numbers.items) r.strict
+
+-- rows of one shape, and the directions that were seen are theirs
+pub record IsList (l : RowList) : Type 0 where
+  pub few : l.columns ≤ 9
+  pub wide : l.columns ≤ l.width
+  pub rows : All (IsKeptRow l.width) l.rows.items
+  pub seen : l.seen.keys ≡ map (row_direction l.columns) l.rows.items
+
+-- rows of so many columns and numbers
+pub record HasShape (l : RowList) (columns width : ℕ) : Type 0 where
+  pub columns_same : l.columns ≡ columns
+  pub width_same : l.width ≡ width
+
+-- the list is what the definition answers, or that ends as the call does
+abbrev pub Takes : {A : Type 0} → Result A Ending → Result (List Kept) Stop → RowList → Type 0
+Takes (Ok u) r l = r ≡ Ok (list_of l)
+Takes (Err e) r l = Ends r e
+
+-- the answer of a call that ends with the multipliers as a certificate, unless memory runs out
+abbrev pub Certifies : Ending → List ℤ → Type 0
+Certifies (Refuted c) multipliers = c ≡ multipliers
+Certifies TooBig multipliers = ⊥
+Certifies TooManyRows multipliers = ⊥
+Certifies Memory multipliers = Unit {0}
