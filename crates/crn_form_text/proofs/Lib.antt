@@ -1,0 +1,16 @@
+pub mod Fractions
+pub mod Places
+pub mod Marks
+pub mod Puts
+pub mod NumberLaws
+pub mod FormLaws
+pub mod FormSpells
+pub mod WalkRuns
+pub mod WalkWritten
+pub mod BuildLaws
+pub mod PlainLaws
+pub mod PlainSpells
+pub mod Meanings
+pub mod Numbers
+pub mod PrintLaws
+pub mod ItemLaws

@@ -1,0 +1,37 @@
+ghost use Rattle.std.specs.Prelude.{ℕ, ℤ, List, ◌≡◌, ◌≤◌, ◌++◌, length, take, All, IsTrue};
+ghost use Rattle.crn_token.specs.Plain.{Plain, PlainNumber};
+ghost use Rattle.crn_fraction.specs.Rational.{ℚ, 0ℚ, ◌≤ℚ◌};
+ghost use Rattle.crn_formula.specs.Formulas.{Formula, node_count};
+ghost use Rattle.crn_form_text.specs.Grammar.{SpellsForm, SpellsPlain, SpellsFormula};
+ghost use Rattle.crn_token.specs.Printed.{Item, shown, ends_before, IsPrinted};
+ghost use Rattle.crn_fraction.specs.Frac.{IsFrac};
+ghost use Rattle.crn_linear.specs.Forms.{entry_of};
+ghost use Rattle.crn_form_text.specs.Printing.{form_items, formula_items, with_constant, with_constants, HasColumnsFor, AreFracs, FitsText};
+
+/// Tokens spell one form at most, and one formula of those that a function may have.
+pub fn one_meaning()
+    ensures forms { (k : ℕ) (f g : List ℚ) (ts : List Plain) → k ≤ 8 → SpellsForm k f ts → SpellsForm k g ts → f ≡ g }
+    ensures plain { (k : ℕ) (f g : List ℚ) (ts : List Plain) → k ≤ 8 → SpellsPlain k f ts → SpellsPlain k g ts → f ≡ g }
+    ensures formulas { (k : ℕ) (e f : Formula) (ts : List Plain) → k ≤ 8 → node_count e ≤ 2048 → SpellsFormula k e ts → SpellsFormula k f ts → e ≡ f }
+{}
+
+/// A form that is spelled without `-` and constants has a column for each variable and no negative coefficient.
+pub fn plain_forms_are_nonnegative()
+    ensures columns { (k : ℕ) (form : List ℚ) (ts : List Plain) → SpellsPlain k form ts → length form ≡ k }
+    ensures nonnegative { (k : ℕ) (form : List ℚ) (ts : List Plain) → SpellsPlain k form ts → All (λ c. 0ℚ ≤ℚ c) form }
+{}
+
+/// The tokens of a printed form spell that form, and those of a printed formula spell that formula, with a constant of 0 where the forms
+/// have no column for it.
+pub fn printed_spells()
+    ensures forms { (k : ℕ) (form : List ℚ) → k ≤ length form → SpellsForm k (with_constant k form) (shown (form_items k form)) }
+    ensures formulas { (k : ℕ) (e : Formula) → HasColumnsFor k e → SpellsFormula k (with_constants k e) (shown (formula_items k e)) }
+{}
+
+/// Before what keeps apart from a number, the tokens of a printed form or formula keep apart, so that the bytes read back as these tokens.
+pub fn printed_reads_back()
+    ensures forms { (k : ℕ) (form : List ℚ) (rest : List Item) → length (take k form) ≤ 8 → AreFracs (take k form) → IsFrac (entry_of form k)
+        → ((n : ℤ) → IsTrue (ends_before (PlainNumber n) rest)) → IsPrinted rest → IsPrinted (form_items k form ++ rest) }
+    ensures formulas { (k : ℕ) (e : Formula) → FitsText k e → (rest : List Item)
+        → ((n : ℤ) → IsTrue (ends_before (PlainNumber n) rest)) → IsPrinted rest → IsPrinted (formula_items k e ++ rest) }
+{}

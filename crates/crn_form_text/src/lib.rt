@@ -1,0 +1,16 @@
+//! Numbers, linear forms and formulas as they are written in the tokens of one line.
+#![tactic(auto)]
+
+mod form;
+mod formula;
+mod laws;
+mod mark;
+mod number;
+
+pub use form::{narrow, read_form, read_plain_form};
+pub use formula::{FormulaText, read_formula};
+pub use laws::{one_meaning, plain_forms_are_nonnegative, printed_reads_back, printed_spells};
+pub use number::read_fraction;
+
+#[cfg(test)]
+mod tests;
