@@ -1,0 +1,14 @@
+use Rattle.std.proofs.Common.{◌+◌, sym, subst}
+use Rattle.crn_formula.specs.Functions.{IsFitting, ByPieces, IsPieceOver}
+use Rattle.crn_formula.specs.Views.{piece_of, pieces_of}
+use Rattle.crn_formula.proofs.Lists.{All-map}
+use Rattle.crn_function_text.proofs.Narrowing.{kept_fits}
+use Rattle.crn_function_text.proofs.columns.function_of_pieces.Goals as goal
+
+pub kept_columns-requires-clause-over : goal.kept_columns-requires-clause-over
+kept_columns-requires-clause-over c = (All-map piece_of (IsPieceOver (c.args.variables + 1)) c.args.pieces.items).1 c.requires.kept.over
+
+pub of-requires : goal.of-requires
+of-requires c =
+    subst (λ ps. IsFitting c.args.variables (ByPieces ps)) (sym c.kept_columns.ensures)
+    (kept_fits c.args.variables (pieces_of c.args.pieces.items) c.requires.some c.requires.few c.requires.kept)

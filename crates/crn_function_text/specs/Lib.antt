@@ -1,0 +1,5 @@
+pub mod Words
+pub mod Columns
+pub mod Spelled
+pub mod Grammar
+pub mod Reading

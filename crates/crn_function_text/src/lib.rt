@@ -1,0 +1,138 @@
+//! The text of functions: its grammar, apart from how it is read, and the function that a text spells.
+#![tactic(auto)]
+
+ghost use Rattle.std.specs.Prelude.{◌≡◌, ◌≤◌, List, drop, vec_len, IfOk};
+ghost use Rattle.crn_token.specs.Lines.{AreLinesOf};
+ghost use Rattle.crn_token.specs.Plain.{PlainLine, plain_lines};
+ghost use Rattle.crn_grammar.specs.Table.{IsText, PassesNone, IsAnswer};
+ghost use Rattle.crn_grammar.specs.Table as table;
+ghost use Rattle.crn_grammar.specs.Part.{part_end};
+ghost use Rattle.crn_formula.specs.Domains.{domain_for};
+ghost use Rattle.crn_formula.specs.Views.{kind_of};
+ghost use Rattle.crn_function_text.specs.Grammar.{PlainFunction, function_table, line_number, end_of, function_part, function_answer};
+ghost use Rattle.crn_function_text.specs.Reading.{shown, function_of, Gives, GivesPart, IsRight, IsKept};
+
+use crn_formula::Function;
+use crn_token::{Counted, Lines, token_lines};
+use place::Place;
+use std::alloc::{AllocError, AllocFailed, Global};
+use thiserror::Error;
+use words::{first_word, tokens_of};
+
+mod columns;
+mod place;
+mod words;
+
+/// Why a text has no function that can be answered. Of several causes the one of the earliest line counts, and a malformed line
+/// before a limit.
+#[derive(Clone, Copy, Debug, PartialEq, Eq, Error)]
+pub enum FunctionTextError {
+    /// The first line up to which the lines begin no text, or the line past the last where the text is too short.
+    #[error("line {line} is malformed")]
+    Malformed { line: usize },
+    /// The first line that passes a limit.
+    #[error("limit {what:?} {count}")]
+    Limit { what: Counted, count: u64 },
+    #[error("out of memory")]
+    Memory,
+}
+
+impl From<AllocError> for FunctionTextError {
+    ghost use Rattle.crn_function_text.specs.declared.FunctionTextError.TheVariants.{Memory};
+
+    ghost from_gives = { λ _ e. e ≡ Memory };
+
+    fn from(_e: AllocError) -> FunctionTextError {
+        FunctionTextError::Memory
+    }
+}
+
+impl<T: Drop> From<AllocFailed<T>> for FunctionTextError {
+    ghost use Rattle.crn_function_text.specs.declared.FunctionTextError.TheVariants.{Memory};
+
+    ghost from_gives = { λ _ e. e ≡ Memory };
+
+    fn from(_e: AllocFailed<T>) -> FunctionTextError {
+        FunctionTextError::Memory
+    }
+}
+
+/// The function part that begins at the line with the index `from`, and the index of the first line after it: the part ends at the
+/// first line that does not begin with a word that may follow. Refusals speak of the lines from `from` on.
+pub fn read_function_lines(
+    alloc: Global,
+    bytes: &[u8],
+    lines: &Lines,
+    from: usize,
+) -> Result<(Function, usize), FunctionTextError>
+    requires lines { AreLinesOf bytes.now lines.now }
+    requires from { from ≤ vec_len lines.now.lines }
+    ensures answer { GivesPart (plain_lines bytes.now) result (function_part bytes.now from) }
+    ensures next { IfOk result (λ r. (from ≤ r.1) × (r.1 ≤ vec_len lines.now.lines)) }
+    ensures domain { IfOk result (λ r. r.0.domain ≡ domain_for r.0.variables (kind_of r.0.kind)) }
+{
+    let mut place = Place::Start;
+    for index in from..lines.lines.len() {
+        let line = &lines.lines[index];
+        let word = first_word(bytes, tokens_of(line));
+        if !place.allows(word) {
+            return part_up_to(place, line.number, index);
+        }
+        match place.after(alloc, bytes, line, word) {
+            Ok(next) => place = next,
+            Err(error) => return Err(error),
+        }
+    }
+    part_up_to(place, lines.count + 1, lines.lines.len())
+}
+
+// The function of a part that ends before the line with this number, which has this index.
+fn part_up_to(
+    place: Place,
+    number: usize,
+    index: usize,
+) -> Result<(Function, usize), FunctionTextError>
+    requires { IsKept (shown place) }
+    ensures answer { (lines : List PlainLine) → GivesPart lines result (part_end function_table number (shown place) (drop index lines)) }
+    ensures next { IfOk result (λ r. r.1 ≡ index) }
+    ensures domain { IfOk result (λ r. r.0.domain ≡ domain_for r.0.variables (kind_of r.0.kind)) }
+{
+    match place.function(number) {
+        Ok(function) => Ok((function, index)),
+        Err(error) => Err(error),
+    }
+}
+
+/// The function of a text.
+pub fn read_function(alloc: Global, bytes: &[u8]) -> Result<Function, FunctionTextError>
+    // Each answer is the right one: the function of the text, the malformed line, or the first limit that is passed.
+    ensures answer { IsRight function_of result (IsAnswer function_table line_number (end_of bytes.now) (plain_lines bytes.now)) }
+    // A text that passes no limit is read.
+    ensures read { (f : PlainFunction) → IsText function_table (plain_lines bytes.now) f → PassesNone function_table (plain_lines bytes.now)
+        → Gives function_of result (table.Read f) }
+    ensures domain { IfOk result (λ f. f.domain ≡ domain_for f.variables (kind_of f.kind)) }
+{
+    read_text(alloc, bytes)
+}
+
+// The function of a text, line by line.
+fn read_text(alloc: Global, bytes: &[u8]) -> Result<Function, FunctionTextError>
+    ensures answer { Gives function_of result (function_answer bytes.now) }
+    ensures domain { IfOk result (λ f. f.domain ≡ domain_for f.variables (kind_of f.kind)) }
+{
+    let lines = token_lines(alloc, bytes)?;
+    match read_function_lines(alloc, bytes, &lines, 0) {
+        Ok((function, next)) => {
+            if next < lines.lines.len() {
+                let line = lines.lines[next].number;
+                Err(FunctionTextError::Malformed { line })
+            } else {
+                Ok(function)
+            }
+        }
+        Err(error) => Err(error),
+    }
+}
+
+#[cfg(test)]
+mod tests;
