@@ -1,0 +1,45 @@
+-- The test of a segment, and the flows that are one.
+use Rattle.std.proofs.Common.{◌≡◌, ℕ, Bool, true, false, ◌&&◌, List, [], ◌∷◌, refl, sym, ◌∙◌, ap₂, ⊎_elim, arith, lt-ltb, ltb-true}
+use Rattle.std.specs.Prelude.{nat_lt}
+use Rattle.crn_fraction.specs.Rational.{ℚ, 0ℚ, ◌<ℚ◌}
+use Rattle.crn_fraction.proofs.Linear.{not_<ℚ}
+use Rattle.crn_net.specs.declared.Flow.{Flow}
+use Rattle.crn_segments.specs.Flows.{AreAscending, IsSegment}
+use Rattle.crn_segments.specs.Signs.{is_positive_ℚ}
+use Rattle.crn_segments.proofs.SignLaws.{is_positive_ℚ_cases}
+use Rattle.crn_job.specs.Grammar.{ascend, is_segment}
+
+and_left : (a b : Bool) → a && b ≡ true → a ≡ true
+and_left true b is = refl
+and_left false b is = is
+
+and_right : (a b : Bool) → a && b ≡ true → b ≡ true
+and_right true b is = is
+and_right false b is = let wrong : false ≡ true = is in cc
+
+positive : (a : ℚ) → is_positive_ℚ a ≡ true → 0ℚ <ℚ a
+positive a is = ⊎_elim (λ yes_. yes_.1) (λ never. let wrong : false ≡ true = sym never.0 ∙ is in cc) (is_positive_ℚ_cases a)
+
+is_positive : (a : ℚ) → 0ℚ <ℚ a → is_positive_ℚ a ≡ true
+is_positive a above = ⊎_elim (λ yes_. yes_.0) (λ never. absurd (not_<ℚ a 0ℚ never.1 above)) (is_positive_ℚ_cases a)
+
+ascending : (low : ℕ) (fs : List Flow) → ascend low fs ≡ true → AreAscending low fs
+ascending low [] is = tt
+ascending low (f ∷ fs) is =
+    let rest = and_right (nat_lt low f.reaction) (is_positive_ℚ f.flux && ascend f.reaction fs) is in (
+      ltb-true low f.reaction (and_left (nat_lt low f.reaction) (is_positive_ℚ f.flux && ascend f.reaction fs) is),
+      positive f.flux (and_left (is_positive_ℚ f.flux) (ascend f.reaction fs) rest),
+      ascending f.reaction fs (and_right (is_positive_ℚ f.flux) (ascend f.reaction fs) rest),
+    )
+
+ascends : (low : ℕ) (fs : List Flow) → AreAscending low fs → ascend low fs ≡ true
+ascends low [] are = refl
+ascends low (f ∷ fs) are = ap₂ (λ a b. a && b) (lt-ltb low f.reaction are.0) (ap₂ (λ a b. a && b) (is_positive f.flux are.1) (ascends f.reaction fs are.2))
+
+pub segment_is : (fs : List Flow) → is_segment fs ≡ true → IsSegment fs
+segment_is [] is = let wrong : false ≡ true = is in cc
+segment_is (f ∷ fs) is = record { some = omega arith; ascending = ascending 0 (f ∷ fs) is }
+
+pub is_segment_of : (fs : List Flow) → IsSegment fs → is_segment fs ≡ true
+is_segment_of [] is = absurd (omega (arith, is.some))
+is_segment_of (f ∷ fs) is = ascends 0 (f ∷ fs) is.ascending

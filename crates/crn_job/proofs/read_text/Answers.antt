@@ -1,0 +1,14 @@
+use Rattle.std.proofs.Common.{Err, sym, subst}
+use Rattle.crn_function_text.specs.Reading.{function_of}
+use Rattle.crn_job.specs.Grammar.{job_answer}
+use Rattle.crn_job.specs.Reading.{Gives, job_of}
+use Rattle.crn_job.proofs.JobLaws.{job_read, job_refused}
+use Rattle.crn_job.proofs.read_text.Goals as goal
+
+pub returns-in-Ok-clause-answer : goal.returns-in-Ok-clause-answer
+returns-in-Ok-clause-answer c =
+    subst (Gives job_of c.read_rest.result) (sym (job_read c.args.bytes.now (function_of c.in-Ok.function) c.in-Ok.next c.in-Ok.ensures.answer)) c.read_rest.ensures.answer
+
+pub returns-clause-answer : goal.returns-clause-answer
+returns-clause-answer c =
+    subst (λ e. Gives job_of (Err e) (job_answer c.args.bytes.now)) (sym c.refused.ensures) (job_refused c.args.bytes.now c.in-Err.error c.in-Err.ensures.answer)

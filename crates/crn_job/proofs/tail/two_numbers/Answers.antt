@@ -1,0 +1,17 @@
+use Rattle.std.proofs.Common.{◌∷◌, sym, ◌∙◌, ap}
+use Rattle.std.specs.Option.{option_map}
+use Rattle.crn_job.proofs.Numbers.{numbers_first, numbers_none}
+use Rattle.crn_job.proofs.tail.two_numbers.Goals as goal
+
+pub returns-in-Some-one_number : goal.returns-in-Some-one_number
+returns-in-Some-one_number c = λ bytes.
+    sym (numbers_first 1 bytes c.args.tokens.now c.after-rest.result.now _ _ (c.in-Some.ensures.value bytes) c.after-rest.ensures
+    ∙ ap (option_map (λ qs. _ ∷ qs)) (sym (c.in-Some-one_number.ensures bytes)))
+
+pub returns-in-None-one_number : goal.returns-in-None-one_number
+returns-in-None-one_number c = λ bytes.
+    sym (numbers_first 1 bytes c.args.tokens.now c.after-rest.result.now _ _ (c.in-Some.ensures.value bytes) c.after-rest.ensures
+    ∙ ap (option_map (λ qs. _ ∷ qs)) (sym (c.in-None-one_number.ensures bytes)))
+
+pub returns-in-None : goal.returns-in-None
+returns-in-None c = λ bytes. sym (numbers_none 1 bytes c.args.tokens.now (c.in-None.ensures.value bytes))

@@ -1,0 +1,178 @@
+//! The text of jobs: a function, the amounts of its inputs, and segments.
+#![tactic(auto)]
+
+ghost use Rattle.std.specs.Prelude.{◌≡◌, ◌≤◌, ◌*◌, length, vec_len, IfOk};
+ghost use Rattle.crn_token.specs.Lines.{AreLinesOf};
+ghost use Rattle.crn_token.specs.Plain.{plain_lines};
+ghost use Rattle.crn_grammar.specs.Table.{IsText, PassesNone, IsAnswer};
+ghost use Rattle.crn_grammar.specs.Table as table;
+ghost use Rattle.crn_formula.specs.Domains.{domain_for};
+ghost use Rattle.crn_formula.specs.Views.{kind_of};
+ghost use Rattle.crn_function_text.specs.Grammar.{line_number, end_of};
+ghost use Rattle.crn_net.specs.Network.{AreNotNegative};
+ghost use Rattle.crn_function_text.specs.Reading.{function_of};
+ghost use Rattle.crn_job.specs.Grammar.{PlainJob, job_table, job_answer, tail_answer, joined_answer, rails_of, amounts_of, amount_count};
+ghost use Rattle.crn_job.specs.Reading.{Gives, IsRight, value_of, job_of, refused};
+
+use crn_formula::{Function, FunctionKind};
+use crn_fraction::Frac;
+use crn_function_text::{FunctionTextError, read_function_lines};
+use crn_net::Rails;
+use crn_segments::Segment;
+use crn_token::{Counted, Lines, token_lines};
+use std::alloc::{AllocError, AllocFailed, Global};
+use tail::Tail;
+use thiserror::Error;
+use words::{first_word, rest_of, tokens_of};
+
+mod tail;
+mod words;
+
+/// Why a text has no job that can be answered. Of several causes the one of the earliest line counts, and a malformed line before a
+/// limit.
+#[derive(Clone, Copy, Debug, PartialEq, Eq, Error)]
+pub enum JobError {
+    /// The first line up to which the lines begin no text, or the line past the last where the text is too short.
+    #[error("line {line} is malformed")]
+    Malformed { line: usize },
+    /// The first line that passes a limit.
+    #[error("limit {what:?} {count}")]
+    Limit { what: Counted, count: u64 },
+    #[error("out of memory")]
+    Memory,
+}
+
+impl From<AllocError> for JobError {
+    ghost use Rattle.crn_job.specs.declared.JobError.TheVariants.{Memory};
+
+    ghost from_gives = { λ _ e. e ≡ Memory };
+
+    fn from(_e: AllocError) -> JobError {
+        JobError::Memory
+    }
+}
+
+impl<T: Drop> From<AllocFailed<T>> for JobError {
+    ghost use Rattle.crn_job.specs.declared.JobError.TheVariants.{Memory};
+
+    ghost from_gives = { λ _ e. e ≡ Memory };
+
+    fn from(_e: AllocFailed<T>) -> JobError {
+        JobError::Memory
+    }
+}
+
+/// A function, the amounts of its inputs and segments.
+#[derive(Debug, Drop)]
+pub struct Job {
+    pub function: Function,
+    /// The amounts of the input lines from left to right.
+    pub amounts: Vec<Frac>,
+    pub segments: Vec<Segment>,
+}
+
+/// The amounts of the `input` lines and the segments of the `segment` lines, from the line with the index `from` to the end.
+pub fn read_job_tail(
+    alloc: Global,
+    bytes: &[u8],
+    lines: &Lines,
+    from: usize,
+    inputs: usize,
+    rails: Rails,
+) -> Result<(Vec<Frac>, Vec<Segment>), JobError>
+    requires lines { AreLinesOf bytes.now lines.now }
+    requires from { from ≤ vec_len lines.now.lines }
+    requires some { 1 ≤ inputs }
+    requires few { inputs ≤ 8 }
+    ensures answer { Gives value_of result (tail_answer rails inputs bytes.now from) }
+    ensures amounts { IfOk result (λ r. (length r.0.items ≡ inputs * amounts_of rails) × AreNotNegative r.0.items) }
+{
+    let mut tail = Tail::new(alloc, rails, inputs);
+    for index in from..lines.lines.len() {
+        let line = &lines.lines[index];
+        let tokens = tokens_of(line);
+        let word = first_word(bytes, tokens);
+        match tail.after(alloc, line.number, word, rest_of(tokens)) {
+            Ok(next) => tail = next,
+            Err(error) => return Err(error),
+        }
+    }
+    tail.value(lines.count + 1)
+}
+
+/// The job of a text: a function part, then an `input` line for each variable, with plus and minus for a function by a formula or by
+/// pieces, and then `segment` lines.
+pub fn read_job(alloc: Global, bytes: &[u8]) -> Result<Job, JobError>
+    // Each answer is the right one: the job of the text, the malformed line, or the first limit that is passed.
+    ensures answer { IsRight job_of result (IsAnswer job_table line_number (end_of bytes.now) (plain_lines bytes.now)) }
+    // A text that passes no limit is read.
+    ensures read { (job : PlainJob) → IsText job_table (plain_lines bytes.now) job → PassesNone job_table (plain_lines bytes.now)
+        → Gives job_of result (table.Read job) }
+    ensures domain { IfOk result (λ j. j.function.domain ≡ domain_for j.function.variables (kind_of j.function.kind)) }
+    ensures amounts { IfOk result (λ j. (length j.amounts.items ≡ amount_count (function_of j.function)) × AreNotNegative j.amounts.items) }
+{
+    read_text(alloc, bytes)
+}
+
+// The job of a text, line by line.
+fn read_text(alloc: Global, bytes: &[u8]) -> Result<Job, JobError>
+    ensures answer { Gives job_of result (job_answer bytes.now) }
+    ensures domain { IfOk result (λ j. j.function.domain ≡ domain_for j.function.variables (kind_of j.function.kind)) }
+    ensures amounts { IfOk result (λ j. (length j.amounts.items ≡ amount_count (function_of j.function)) × AreNotNegative j.amounts.items) }
+{
+    let lines = token_lines(alloc, bytes)?;
+    match read_function_lines(alloc, bytes, &lines, 0) {
+        Ok((function, next)) => read_rest(alloc, bytes, &lines, function, next),
+        Err(error) => Err(refused(error)),
+    }
+}
+
+// The refusal of a job whose function part is refused so.
+fn refused(error: FunctionTextError) -> JobError
+    ensures { result ≡ refused error }
+{
+    match error {
+        FunctionTextError::Malformed { line } => JobError::Malformed { line },
+        FunctionTextError::Limit { what, count } => JobError::Limit { what, count },
+        FunctionTextError::Memory => JobError::Memory,
+    }
+}
+
+// A direct function has one amount an input, each other one two.
+fn rails_of(function: &Function) -> Rails
+    ensures { result ≡ rails_of (kind_of function.now.kind) }
+{
+    match function.kind() {
+        FunctionKind::Direct(_) => Rails::Direct,
+        _ => Rails::Dual,
+    }
+}
+
+// The job of this function and the lines after it.
+fn read_rest(
+    alloc: Global,
+    bytes: &[u8],
+    lines: &Lines,
+    function: Function,
+    from: usize,
+) -> Result<Job, JobError>
+    requires lines { AreLinesOf bytes.now lines.now }
+    requires from { from ≤ vec_len lines.now.lines }
+    ensures answer { Gives job_of result (joined_answer (function_of function) (tail_answer (rails_of (kind_of function.kind)) function.variables bytes.now from)) }
+    ensures function { IfOk result (λ j. j.function ≡ function) }
+    ensures amounts { IfOk result (λ j. (length j.amounts.items ≡ amount_count (function_of function)) × AreNotNegative j.amounts.items) }
+{
+    let rails = rails_of(&function);
+    let inputs = function.variables();
+    match read_job_tail(alloc, bytes, lines, from, inputs, rails) {
+        Ok((amounts, segments)) => Ok(Job {
+            function,
+            amounts,
+            segments,
+        }),
+        Err(error) => Err(error),
+    }
+}
+
+#[cfg(test)]
+mod tests;

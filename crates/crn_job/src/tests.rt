@@ -1,0 +1,146 @@
+use super::*;
+use std::alloc::AllocError;
+use std::test::Fail;
+
+const MINIMUM: &[u8] =
+    b"function formula\nvariables 2\nvalue min(x1, x2)\ninput 3/2 1/2\ninput 2 0\n";
+
+fn malformed(line: usize) -> Result<usize, JobError> {
+    Err(JobError::Malformed { line })
+}
+
+// How many segments the job that was read has, or why none was.
+fn read(alloc: Global, text: &[u8]) -> Result<usize, JobError> {
+    match read_job(alloc, text) {
+        Ok(job) => Ok(job.segments.len()),
+        Err(error) => Err(error),
+    }
+}
+
+#[test]
+fn a_text_cut_short(rt: HostRuntime) -> Result<(), Fail> {
+    assert_eq!(rt; MINIMUM.len(), 71);
+    for n in 0..72usize {
+        let wanted = match n {
+            0..=15 => malformed(1),
+            16..=27 => malformed(2),
+            28..=45 => malformed(3),
+            46..=57 | 59 => malformed(4),
+            58 | 60..=69 => malformed(5),
+            _ => Ok(0),
+        };
+        if let Some(text) = MINIMUM.get(..n) {
+            assert_eq!(rt; read(rt.alloc(), text), wanted, "after {n} bytes");
+        }
+    }
+    Ok(())
+}
+
+#[test]
+fn reads_or_refuses(rt: HostRuntime) -> Result<(), Fail> {
+    for (text, wanted) in [
+        (
+            b"# least of two\r\n\r\nfunction formula\r\nvariables 2\r\nvalue min(x1, x2)\r\ninput 3/2 1/2\r\ninput 2 0".as_slice(),
+            Ok(0),
+        ),
+        (
+            b"function formula\nvariables 2\nvalue min(x1, x2)\ninput 03/2 1/2\ninput 2 0\n".as_slice(),
+            malformed(4),
+        ),
+        (
+            b"function formula\nvariables 2\nvalue min(x1, x2)\ninput 3/0 1/2\ninput 2 0\n".as_slice(),
+            malformed(4),
+        ),
+        (
+            b"function direct\nvariables 2\nform 2x1 + x2\nform 3x2\ninput 1\ninput 1\n".as_slice(),
+            Ok(0),
+        ),
+        (
+            b"function direct\nvariables 2\nform 2x1 + x2\nform 3x2\ninput -1\ninput 1\n".as_slice(),
+            malformed(5),
+        ),
+        (
+            b"function direct\nvariables 1\nform x1\ninput 1\ninput 1\n".as_slice(),
+            malformed(5),
+        ),
+        (
+            b"function direct\nvariables 1\nform x1\nsegment 1:1\n".as_slice(),
+            malformed(4),
+        ),
+        (
+            b"function direct\nvariables 1\nform x1\ninput 1\nsegment 1:1/2 3:2\nsegment 2:1\n".as_slice(),
+            Ok(2),
+        ),
+        (
+            b"function direct\nvariables 1\nform x1\ninput 1\nsegment\n".as_slice(),
+            malformed(5),
+        ),
+        (
+            b"function direct\nvariables 1\nform x1\ninput 1\nsegment 0:1\n".as_slice(),
+            malformed(5),
+        ),
+        (
+            b"function direct\nvariables 1\nform x1\ninput 1\nsegment 2:1 2:1\n".as_slice(),
+            malformed(5),
+        ),
+        (
+            b"function direct\nvariables 1\nform x1\ninput 1\nsegment 1:0\n".as_slice(),
+            malformed(5),
+        ),
+        (
+            b"function direct\nvariables 9\nform x1\n".as_slice(),
+            Err(JobError::Limit {
+                what: Counted::Variables,
+                count: 9,
+            }),
+        ),
+    ] {
+        assert_eq!(rt; read(rt.alloc(), text), wanted);
+    }
+    Ok(())
+}
+
+fn with_segments(alloc: Global, count: usize) -> Result<Vec<u8>, AllocError> {
+    let mut text = Vec::from_slice(alloc, MINIMUM)?;
+    for _ in 0..count {
+        text.extend_from_slice(b"segment 1:1/10000\n")?;
+    }
+    Ok(text)
+}
+
+#[test]
+fn ten_thousand_segments(rt: HostRuntime) -> Result<(), Fail> {
+    let text = with_segments(rt.alloc(), 10_000)?;
+    assert_eq!(rt; read(rt.alloc(), text.as_slice()), Ok(10_000));
+    let text = with_segments(rt.alloc(), 10_001)?;
+    let wanted = Err(JobError::Limit {
+        what: Counted::Segments,
+        count: 10_001,
+    });
+    assert_eq!(rt; read(rt.alloc(), text.as_slice()), wanted);
+    Ok(())
+}
+
+#[test]
+fn amounts_from_left_to_right(rt: HostRuntime) -> Result<(), Fail> {
+    let job = read_job(rt.alloc(), MINIMUM)?;
+    let wanted = [
+        Frac::of(3, 2)?,
+        Frac::of(1, 2)?,
+        Frac::of(2, 1)?,
+        Frac::ZERO,
+    ];
+    assert_eq!(rt; job.amounts.as_slice(), wanted.as_slice());
+    let lines = token_lines(rt.alloc(), b"input 4/6\nsegment 7:2\n".as_slice())?;
+    let (amounts, segments) = read_job_tail(
+        rt.alloc(),
+        b"input 4/6\nsegment 7:2\n".as_slice(),
+        &lines,
+        0,
+        1,
+        Rails::Direct,
+    )?;
+    assert_eq!(rt; amounts.as_slice(), [Frac::of(2, 3)?].as_slice());
+    assert_eq!(rt; segments.len(), 1);
+    Ok(())
+}
