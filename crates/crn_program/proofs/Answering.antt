@@ -1,20 +1,19 @@
 -- What a call of the program took and wrote, and what it answers.
-use Rattle.std.proofs.Common.{◌≡◌, ℕ, ◌+◌, ◌<◌, ◌≤◌, List, [], ◌∷◌, ◌++◌, length, drop, get_or, map, Option, Some, None, IfSome, IfNone, sym, ap, refl, ◌∙◌, arith, length-append, append-nil, drop_at, drop_of_length-le}
+use Rattle.std.proofs.Common.{◌≡◌, ℕ, ◌+◌, ◌<◌, ◌≤◌, List, [], ◌∷◌, ◌++◌, length, drop, get_or, map, Option, Some, None, sym, ap, refl, ◌∙◌, subst, arith, length-append, append-nil, drop_at, drop_of_length-le}
 use Rattle.std.specs.Io.KnownBytes.{Appends, Consumes, IsAtEnd}
 use Rattle.std.specs.String.{string_bytes}
-use Rattle.std.specs.Prelude.{String, codes}
-use Rattle.crn_fraction.specs.Rational.{ℚ}
+use Rattle.std.specs.Prelude.{String}
 use Rattle.crn_io.specs.Moved.{ConsumesSome}
+use Rattle.crn_segments.specs.declared.StepError.{StepError}
+use Rattle.crn_segments.specs.declared.StepError.TheVariants as step
 use Rattle.crn_program.specs.declared.answer.Command.{Command}
 use Rattle.crn_program.specs.declared.answer.Command.TheVariants.{Complete}
 use Rattle.crn_program.specs.declared.status.Status.{Status}
-use Rattle.crn_program.specs.declared.status.Status.TheVariants.{Done, Usage, ReadFault, WriteFault, Memory, TooBig, NotBuilt}
-use Rattle.crn_program.specs.Answer.{Answers, CommandAnswers, CompleteAnswers, JobAnswers, IsRow}
-use Rattle.crn_program.specs.JobText.{IsJob}
-use Rattle.crn_program.specs.Reading.{read_job}
-use Rattle.crn_program.specs.Report.{refusal}
-use Rattle.crn_program.specs.Told.{Told, AnswersTo, TakesText, Came, text_limit}
-use Rattle.crn_program.proofs.ReadingLaws.{job_read, job_is, job_length}
+use Rattle.crn_program.specs.declared.status.Status.TheVariants as status
+use Rattle.crn_program.specs.Finding.{Finding, NoCommand, LongText, WrongLine, PastLimit, OtherKind, RefusedSegment, Unfinished, NoValue, Completed, status_of, text_of, status_of_step}
+use Rattle.crn_program.specs.Answer.{Answers, Says, IsFound, IsFoundBy, text_limit}
+use Rattle.crn_program.specs.Words.{IsRow, IsNoRow}
+use Rattle.crn_program.specs.Told.{Told, AnswersTo, TakesText, Came}
 
 -- ---- the text
 
@@ -41,65 +40,76 @@ takes_all (Some xs) (Some ys) bs gone done short =
     let all : xs ≡ bs = gone ∙ ap (λ l. bs ++ l) done ∙ append-nil bs in
     ap Some (done ∙ sym (drop_of_length-le xs {i = text_limit + 1} (omega (arith, ap length all))))
 
--- a text past the limit is no job
-pub too_long : (bytes : List ℕ) → text_limit < length bytes → (amounts : List ℚ) → IsJob bytes amounts → ⊥
-too_long bytes long amounts job = absurd (omega (arith, job_length bytes amounts job))
-
--- ---- jobs
-
-pub read_is_job : (text : List ℕ) (r : Option (List ℚ)) → r ≡ read_job text → IfSome r (IsJob text)
-read_is_job text None is = tt
-read_is_job text (Some amounts) is = job_is text amounts (sym is)
-
-pub read_is_none : (text : List ℕ) (r : Option (List ℚ)) → r ≡ read_job text → IfNone r ((amounts : List ℚ) → IsJob text amounts → ⊥)
-read_is_none text None is = λ amounts job. let wrong : None ≡ Some amounts = is ∙ job_read text amounts job in absurd (cc wrong)
-read_is_none text (Some amounts) is = tt
-
-pub read_is_only : (text : List ℕ) (r : Option (List ℚ)) → r ≡ read_job text → (amounts : List ℚ) → IsJob text amounts → r ≡ Some amounts
-read_is_only text r is amounts job = is ∙ job_read text amounts job
-
 -- ---- answers
 
--- the answer to a job is the answer to its text
-pub job_answers : (bytes : List ℕ) (amounts : List ℚ) (status : Status) (text : List ℕ) → IsJob bytes amounts → JobAnswers amounts status text → CompleteAnswers bytes status text
-job_answers bytes amounts Done text job answer = (amounts, job, answer)
-job_answers bytes amounts Usage text job answer = (amounts, job, answer)
-job_answers bytes amounts ReadFault text job answer = (amounts, job, answer)
-job_answers bytes amounts WriteFault text job answer = (amounts, job, answer)
-job_answers bytes amounts Memory text job answer = (amounts, job, answer)
-job_answers bytes amounts TooBig text job answer = (amounts, job, answer)
-job_answers bytes amounts NotBuilt text job answer = absurd answer
+-- what a command finds is found of the words of its row
+row_found : (words : List (List ℕ)) (command : Command) (bytes : List ℕ) (f : Finding) → IsRow command words → IsFoundBy command bytes f → IsFound words bytes f
+row_found words Complete bytes NoCommand row found = absurd found.1.5
+row_found words command bytes LongText row found = (command, row, found)
+row_found words command bytes (WrongLine n) row found = (command, row, found)
+row_found words command bytes (PastLimit what count) row found = (command, row, found)
+row_found words command bytes OtherKind row found = (command, row, found)
+row_found words command bytes (RefusedSegment t e) row found = (command, row, found)
+row_found words command bytes (Unfinished at) row found = (command, row, found)
+row_found words command bytes NoValue row found = (command, row, found)
+row_found words command bytes (Completed net c) row found = (command, row, found)
 
--- the answer of a row is one of the words
-pub row_answer : (words : List (List ℕ)) (command : Command) (left : Option (List ℕ)) (status : Status) (text : List ℕ) → IsRow command words → AnswersTo (CommandAnswers command) left status text → AnswersTo (Answers words) left status text
-row_answer words Complete left Usage text row (bytes, came, (amounts, job, answer)) = absurd answer
-row_answer words command left Done text row (bytes, came, answer) = (bytes, came, (command, row, answer))
-row_answer words command left ReadFault text row (bytes, came, answer) = (bytes, came, (command, row, answer))
-row_answer words command left WriteFault text row (bytes, came, answer) = (bytes, came, (command, row, answer))
-row_answer words command left Memory text row (bytes, came, answer) = (bytes, came, (command, row, answer))
-row_answer words command left TooBig text row (bytes, came, answer) = (bytes, came, (command, row, answer))
-row_answer words command left NotBuilt text row (bytes, came, answer) = (bytes, came, (command, row, answer))
+pub row_answer : (words : List (List ℕ)) (command : Command) (left : Option (List ℕ)) (s : Status) (text : List ℕ) → IsRow command words → AnswersTo (λ bytes. Says (IsFoundBy command bytes)) left s text → AnswersTo (Answers words) left s text
+row_answer words command left s text row (bytes, came, says) =
+    (bytes, came, record { finding = says.finding; found = row_found words command bytes says.finding row says.found; status_is = says.status_is; text_is = says.text_is })
+
+-- what is said of words that are no command, and of a text past the limit
+pub no_command_says : (words : List (List ℕ)) (bytes text : List ℕ) → IsNoRow words → text ≡ text_of NoCommand → Answers words bytes status.Usage text
+no_command_says words bytes text none is = record { finding = NoCommand; found = none; status_is = refl; text_is = is }
+
+pub too_long_says : (command : Command) (bytes text : List ℕ) → text_limit < length bytes → text ≡ text_of LongText → Says (IsFoundBy command bytes) status.TextTooLong text
+too_long_says Complete bytes text long is = record { finding = LongText; found = long; status_is = refl; text_is = is }
+
+-- what is found is told by a status of its own, and not by one of reading, writing or memory
+abbrev IsOwn : Status → Type 0
+IsOwn status.ReadFault = ⊥
+IsOwn status.WriteFault = ⊥
+IsOwn status.Memory = ⊥
+IsOwn _ = Unit {0}
+
+step_is_own : (e : StepError) → IsOwn (status_of_step e)
+step_is_own (step.NoReaction r) = tt
+step_is_own (step.NotPresent r s) = tt
+step_is_own (step.TooBig s) = tt
+step_is_own (step.TakesMore s) = tt
+
+finding_is_own : (f : Finding) → IsOwn (status_of f)
+finding_is_own NoCommand = tt
+finding_is_own LongText = tt
+finding_is_own (WrongLine n) = tt
+finding_is_own (PastLimit what count) = tt
+finding_is_own OtherKind = tt
+finding_is_own (RefusedSegment t e) = step_is_own e
+finding_is_own (Unfinished at) = tt
+finding_is_own NoValue = tt
+finding_is_own (Completed net c) = tt
+
+own_told : (answers : Status → List ℕ → Type 0) (old new : Option (List ℕ)) (s : Status) (text : List ℕ) → IsOwn s → answers s text → Appends old new text → Told answers old new s
+own_told answers old new status.Done text own answer written = (text, answer, written)
+own_told answers old new status.Usage text own answer written = (text, answer, written)
+own_told answers old new status.ReadFault text own answer written = absurd own
+own_told answers old new status.WriteFault text own answer written = absurd own
+own_told answers old new status.Memory text own answer written = absurd own
+own_told answers old new status.TextTooLong text own answer written = (text, answer, written)
+own_told answers old new status.Malformed text own answer written = (text, answer, written)
+own_told answers old new status.Limit text own answer written = (text, answer, written)
+own_told answers old new status.TooBig text own answer written = (text, answer, written)
+own_told answers old new status.Illegal text own answer written = (text, answer, written)
+own_told answers old new status.NotBuilt text own answer written = (text, answer, written)
 
 -- an answer that was written whole is told
-pub told_whole : (words : List (List ℕ)) (left old new : Option (List ℕ)) (status : Status) (text : List ℕ) → AnswersTo (Answers words) left status text → Appends old new text → Told (AnswersTo (Answers words) left) old new status
-told_whole words left old new Done text answer written = (text, answer, written)
-told_whole words left old new Usage text answer written = (text, answer, written)
-told_whole words left old new TooBig text answer written = (text, answer, written)
-told_whole words left old new NotBuilt text answer written = (text, answer, written)
-told_whole words left old new ReadFault text (bytes, came, (Complete, row, (amounts, job, answer))) written = absurd answer
-told_whole words left old new WriteFault text (bytes, came, (Complete, row, (amounts, job, answer))) written = absurd answer
-told_whole words left old new Memory text (bytes, came, (Complete, row, (amounts, job, answer))) written = absurd answer
+pub told_whole : (words : List (List ℕ)) (left old new : Option (List ℕ)) (s : Status) (text : List ℕ) → AnswersTo (Answers words) left s text → Appends old new text → Told (AnswersTo (Answers words) left) old new s
+told_whole words left old new s text answer written =
+    let says = answer.2 in
+    own_told (AnswersTo (Answers words) left) old new s text (subst IsOwn (sym says.status_is) (finding_is_own says.finding)) answer written
 
 -- a list of one word
 pub one_word : {Z : Type 0} (words : List (String Z)) (word : String Z) (bytes : List ℕ) → 1 ≤ length words → length words < 2 → word ≡ get_or words 0 word → string_bytes word ≡ bytes → map string_bytes words ≡ bytes ∷ []
 one_word [] word bytes some few is spelled = absurd (omega arith)
 one_word (w ∷ []) word bytes some few is spelled = ap (λ x. x ∷ []) (ap string_bytes (sym is) ∙ spelled)
 one_word (w ∷ v ∷ ws) word bytes some few is spelled = absurd (omega arith)
-
--- what a command answers to a text that is past the limit
-pub too_long_answer : (command : Command) (bytes text : List ℕ) → text_limit < length bytes → text ≡ refusal (codes "form not built") → CommandAnswers command bytes NotBuilt text
-too_long_answer Complete bytes text long is = (too_long bytes long, is)
-
--- the answer to a job, by its command
-pub command_answers : (command : Command) (bytes : List ℕ) (amounts : List ℚ) (status : Status) (text : List ℕ) → IsJob bytes amounts → JobAnswers amounts status text → CommandAnswers command bytes status text
-command_answers Complete bytes amounts status text job answer = job_answers bytes amounts status text job answer

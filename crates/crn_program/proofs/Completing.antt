@@ -1,59 +1,51 @@
--- A completion, turn by turn.
-use Rattle.std.proofs.Common.{◌≡◌, ℕ, suc, ◌+◌, ◌<◌, List, [], ◌∷◌, ◌++◌, length, Option, Some, None, refl, sym, ap, ap₂, ◌∙◌, subst, arith, below_more}
-use Rattle.std.proofs.lemmas.List.{map-append}
+-- What is found of the completion from a state, and what is said of it.
+use Rattle.std.proofs.Common.{◌≡◌, ℕ, List, ◌++◌, None, Some, refl, sym, ap, ◌∙◌, append_assoc}
+use Rattle.std.specs.Prelude.{codes}
+use Rattle.std.specs.List.{flat_map}
 use Rattle.crn_fraction.specs.Rational.{ℚ}
-use Rattle.crn_net.proofs.Completion.{after_all-append}
-use Rattle.crn_net.specs.Network.{Network, IsState, after_all, with_greatest, completion_to}
+use Rattle.crn_net.specs.Network.{Network, Run, after_all, completion, completed}
 use Rattle.crn_net.specs.declared.Flow.{Flow}
-use Rattle.crn_segments.specs.Fits.{TurnFits, CompletionFits}
-use Rattle.crn_program.specs.Report.{each_alone}
-use Rattle.crn_program.specs.Shifts.{turn_flows, turn_segments}
+use Rattle.crn_net.proofs.Completion.{run_end}
+use Rattle.crn_completer.specs.Kept.{each_alone}
+use Rattle.crn_completer.specs.Refusal.{completion_refusal}
+use Rattle.crn_completer.specs.declared.CompletionTooBig.{CompletionTooBig}
+use Rattle.crn_program.specs.declared.status.Status.TheVariants as status
+use Rattle.crn_program.specs.Report.{OutputFits, line, size_line, state_lines, segment_line, output_lines}
+use Rattle.crn_program.specs.Finding.{Unfinished, NoValue, Completed, text_of}
+use Rattle.crn_program.specs.Answer.{Says}
+use Rattle.crn_program.specs.Ending.{IsFoundFrom}
 
--- the turns of the first r reactions from c fit, have kept these flows, and lead to d
-pub record Turned (net : Network) (c : List ℚ) (flows : List Flow) (d : List ℚ) (r : ℕ) : Type 0 where
-  pub kept : each_alone flows ≡ completion_to net r c
-  pub ends : d ≡ after_all net c (completion_to net r c)
-  pub fit : (q : ℕ) → q < r → TurnFits net (suc q) (after_all net c (completion_to net q c))
-  pub state : IsState net d
+-- the flows of the completion lead to its end
+ends_at : (net : Network) (c d : List ℚ) (fs : List Flow) → each_alone fs ≡ completion net c → Run net c (each_alone fs) d → d ≡ completed net c
+ends_at net c d fs all run = run_end net (each_alone fs) c d run ∙ ap (after_all net c) all
 
-pub turned_none : (net : Network) (c : List ℚ) → IsState net c → Turned net c [] c 0
-unfolding completion_to
-turned_none net c state = record { kept = refl; ends = refl; fit = λ q low. absurd (omega arith); state = state }
+pub says_unfinished : (net : Network) (c : List ℚ) (e : CompletionTooBig) (text : List ℕ) → completion_refusal net c ≡ Some e → text ≡ text_of (Unfinished e) → Says (IsFoundFrom net c) status.TooBig text
+says_unfinished net c e text cause is = record { finding = Unfinished e; found = cause; status_is = refl; text_is = is }
 
-turn_flows_alone : (r : ℕ) (kept : Option ℚ) → each_alone (turn_flows r kept) ≡ turn_segments r kept
-turn_flows_alone r None = refl
-turn_flows_alone r (Some u) = refl
+pub says_no_value : (net : Network) (c d : List ℚ) (fs : List Flow) (text : List ℕ) → completion_refusal net c ≡ None → each_alone fs ≡ completion net c → Run net c (each_alone fs) d
+    → (OutputFits net.output d → ⊥) → text ≡ text_of NoValue → Says (IsFoundFrom net c) status.TooBig text
+says_no_value net c d fs text cause all run unfit is = record {
+  finding = NoValue;
+  found = (cause, rw (sym (ends_at net c d fs all run)) unfit);
+  status_is = refl;
+  text_is = is;
+}
 
-turned_next : (net : Network) (c : List ℚ) (flows : List Flow) (d e : List ℚ) (r : ℕ) (kept : Option ℚ) → Turned net c flows d r →
-    turn_segments (suc r) kept ≡ with_greatest net (suc r) d → e ≡ after_all net d (with_greatest net (suc r) d) → TurnFits net (suc r) d → IsState net e → Turned net c (flows ++ turn_flows (suc r) kept) e (suc r)
-unfolding completion_to
-turned_next net c flows d e r kept t segments ends fit state =
-    let us = completion_to net r c in
+pub says_completed : (net : Network) (c d : List ℚ) (fs : List Flow) (front text : List ℕ) → completion_refusal net c ≡ None → each_alone fs ≡ completion net c → Run net c (each_alone fs) d
+    → OutputFits net.output d → front ≡ size_line net ++ state_lines net c
+    → text ≡ front ++ ((line (codes "completion") ++ flat_map segment_line (each_alone fs)) ++ output_lines net.output d) → Says (IsFoundFrom net c) status.Done text
+says_completed net c d fs front text cause all run fits front_is is =
+    let ending = ends_at net c d fs all run in
     record {
-      kept =
-          map-append (λ (f : Flow). f ∷ []) flows (turn_flows (suc r) kept)
-          ∙ ap₂ (λ x y. x ++ y) t.kept (turn_flows_alone (suc r) kept ∙ segments ∙ ap (with_greatest net (suc r)) t.ends);
-      ends = ends ∙ ap (λ s. after_all net s (with_greatest net (suc r) s)) t.ends ∙ sym (after_all-append net us (with_greatest net (suc r) (after_all net c us)) c);
-      fit = λ q below. below_more (λ p. TurnFits net (suc p) (after_all net c (completion_to net p c))) r t.fit (subst (TurnFits net (suc r)) t.ends fit) q (omega arith);
-      state = state;
+      finding = Completed net c;
+      found = (refl, refl, cause, rw (sym ending) fits);
+      status_is = refl;
+      text_is =
+          is ∙ ap (λ l. l ++ ((line (codes "completion") ++ flat_map segment_line (each_alone fs)) ++ output_lines net.output d)) front_is
+          ∙ ap (λ us. (size_line net ++ state_lines net c) ++ ((line (codes "completion") ++ flat_map segment_line us) ++ output_lines net.output d)) all
+          ∙ ap (λ e. (size_line net ++ state_lines net c) ++ ((line (codes "completion") ++ flat_map segment_line (completion net c)) ++ output_lines net.output e)) ending
+          ∙ joined (size_line net) (state_lines net c) (line (codes "completion")) (flat_map segment_line (completion net c)) (output_lines net.output (completed net c));
     }
-
--- one turn more
-pub turned_more : (net : Network) (c : List ℚ) (flows more : List Flow) (d e : List ℚ) (r n : ℕ) (kept : Option ℚ) → Turned net c flows d r → n ≡ r + 1 →
-    turn_segments n kept ≡ with_greatest net n d → e ≡ after_all net d (with_greatest net n d) → TurnFits net n d → IsState net e → more ≡ flows ++ turn_flows n kept → Turned net c more e n
-turned_more net c flows more d e r n kept t next segments ends fit state is =
-    let same : n ≡ suc r = omega arith in
-    let at : (m : ℕ) → m ≡ suc r → turn_segments m kept ≡ with_greatest net m d → e ≡ after_all net d (with_greatest net m d) → TurnFits net m d → more ≡ flows ++ turn_flows m kept → Turned net c more e m =
-    λ m eq. subst (λ k. turn_segments k kept ≡ with_greatest net k d → e ≡ after_all net d (with_greatest net k d) → TurnFits net k d → more ≡ flows ++ turn_flows k kept → Turned net c more e k) (sym eq)
-    (λ s f g h. subst (λ fs. Turned net c fs e (suc r)) (sym h) (turned_next net c flows d e r kept t s f g state)) in
-    at n same segments ends fit is
-
--- the turn that does not fit
-pub turned_stops : (net : Network) (c : List ℚ) (flows : List Flow) (d : List ℚ) (r n : ℕ) → Turned net c flows d r → n ≡ r + 1 → r < length net.reactions → (TurnFits net n d → ⊥) → CompletionFits net c → ⊥
-turned_stops net c flows d r n t next below bad all =
-    let same : suc r ≡ n = omega arith in
-    bad (subst (λ m. TurnFits net m d) same (subst (TurnFits net (suc r)) (sym t.ends) (all r below)))
-
--- all turns are done
-pub turned_all : (net : Network) (c : List ℚ) (flows : List Flow) (d : List ℚ) (r : ℕ) → Turned net c flows d r → r ≡ length net.reactions → Turned net c flows d (length net.reactions)
-turned_all net c flows d r t e = subst (Turned net c flows d) e t
+  where
+    joined : (a b c d e : List ℕ) → (a ++ b) ++ ((c ++ d) ++ e) ≡ a ++ (b ++ (c ++ (d ++ e)))
+    joined a b c d e = append_assoc a b ((c ++ d) ++ e) ∙ ap (λ l. a ++ (b ++ l)) (append_assoc c d e)

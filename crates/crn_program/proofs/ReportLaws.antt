@@ -4,7 +4,7 @@ use Rattle.std.proofs.lemmas.Grind.{flat_map-append}
 use Rattle.std.proofs.lemmas.List.{take_more, append-nil, map-append}
 use Rattle.std.specs.List.{flat_map, range_with_len}
 use Rattle.crn_net.specs.declared.Flow.{Flow}
-use Rattle.crn_program.specs.Report.{each_alone}
+use Rattle.crn_completer.specs.Kept.{each_alone}
 
 -- a text, a front, and the lines of xs; then the line of x
 pub line_more : {X : Type 0} (f : X → List ℕ) (old front out new : List ℕ) (xs : List X) (x : X) → out ≡ old ++ (front ++ flat_map f xs) → new ≡ out ++ f x → new ≡ old ++ (front ++ flat_map f (xs ++ x ∷ []))

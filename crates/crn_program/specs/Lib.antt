@@ -1,8 +1,9 @@
-pub mod JobText
-pub mod Reading
 pub mod Statuses
-pub mod Table
-pub mod Shifts
 pub mod Report
+pub mod Finding
+pub mod Start
+pub mod Value
+pub mod Words
 pub mod Answer
+pub mod Ending
 pub mod Told

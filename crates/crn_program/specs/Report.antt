@@ -1,5 +1,5 @@
 -- What the program writes of a network, a state and a run.
-use Rattle.std.specs.Prelude.{ℕ, List, [], ◌∷◌, ◌++◌, codes, length, map, if◌then◌else◌}
+use Rattle.std.specs.Prelude.{ℕ, List, [], ◌∷◌, ◌++◌, codes, length, if◌then◌else◌}
 use Rattle.std.specs.List.{flat_map, range_with_len}
 use Rattle.std.specs.Fmt.{decimal}
 use Rattle.std.specs.Ordering.{is_gt}
@@ -42,10 +42,6 @@ flow_text f = codes " " ++ (decimal f.reaction ++ (codes ":" ++ fraction_text f.
 -- `segment r:v`, with every flow of the segment
 abbrev pub segment_line : List Flow → List ℕ
 segment_line u = line (codes "segment" ++ flat_map flow_text u)
-
--- each flow is a segment
-abbrev pub each_alone : List Flow → List (List Flow)
-each_alone fs = map (λ f. f ∷ []) fs
 
 -- the value of the output of a dual network fits; that of a direct one is an amount of the state
 abbrev pub OutputFits : Ends → List ℚ → Type 0

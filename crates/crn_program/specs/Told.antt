@@ -1,14 +1,11 @@
 -- What a call of the program took and wrote.
-use Rattle.std.specs.Prelude.{ℕ, ◌≡◌, ◌+◌, List, drop, Some, None}
+use Rattle.std.specs.Prelude.{◌≡◌, ℕ, ◌+◌, List, drop, Some, None}
 use Rattle.std.specs.declared.option.Option.{Option}
 use Rattle.std.specs.Io.KnownBytes.{Appends, Keeps}
 use Rattle.crn_io.specs.Moved.{AppendsPart}
+use Rattle.crn_program.specs.Answer.{text_limit}
 use Rattle.crn_program.specs.declared.status.Status.{Status}
 use Rattle.crn_program.specs.declared.status.Status.TheVariants.{ReadFault, WriteFault, Memory}
-
--- the greatest number of bytes of a text
-abbrev pub text_limit : ℕ
-text_limit = 1048576
 
 -- where the source tells its bytes, these are what came
 abbrev pub Came : Option (List ℕ) → List ℕ → Type 0

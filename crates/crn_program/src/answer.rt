@@ -1,17 +1,12 @@
-ghost use Rattle.std.specs.Prelude.{ℕ, List, map, ◌≡◌, ◌⊎◌, string_bytes, IfOk, IfSome, IfNone, OnOk, IsErrOf};
+ghost use Rattle.std.specs.Prelude.{ℕ, List, map, ◌≡◌, ◌⊎◌, ◌≤◌, length, string_bytes, IfOk, IfSome, IfNone, OnOk, IsErrOf};
 ghost use Rattle.crn_io.specs.Causes.{Rose};
-ghost use Rattle.crn_program.specs.Answer.{IsRow, IsNoRow, Answers, JobAnswers, CommandAnswers};
-ghost use Rattle.crn_net.specs.Minimum.{minimum};
-ghost use Rattle.crn_net.specs.Network.{AreAmounts};
-ghost use Rattle.crn_program.specs.Report.{refusal};
+ghost use Rattle.crn_program.specs.Answer.{Answers, Says, IsFoundBy, text_limit};
 ghost use Rattle.crn_program.specs.Told.{AnswersTo, TakesText};
+ghost use Rattle.crn_program.specs.Words.{IsRow, IsNoRow};
 
-use crate::completion::{Completion, Incomplete, complete};
-use crate::job::read_job;
-use crate::minimum::{minimum, start};
-use crate::report::completion_report;
+use crate::complete::complete;
+use crate::report::refusal;
 use crate::status::Status;
-use crn_fraction::Frac;
 use crn_io::{ReadAllError, Source, read_all};
 use std::alloc::{AllocError, Global};
 
@@ -59,45 +54,17 @@ fn command_of(words: &[String]) -> Option<Command>
     }
 }
 
-// The line of a refusal.
-fn refusal(alloc: Global, why: &str) -> Result<String, AllocError>
-    ensures { IfOk result (λ line. string_bytes line ≡ refusal why.now) }
-{
-    format!(in alloc; "refused: {why}\n")
-}
-
-// What `complete` answers to a job with these amounts.
-fn job_answer(alloc: Global, amounts: [Frac; 4]) -> Result<(Status, String), AllocError>
-    requires { AreAmounts minimum amounts }
-    ensures { IfOk result (λ answer. JobAnswers amounts answer.0 (string_bytes answer.1)) }
-{
-    let network = minimum(alloc)?;
-    match complete(alloc, &network, start(alloc, amounts)?) {
-        Ok(Completion { flows, end }) => {
-            let state = start(alloc, amounts)?;
-            match completion_report(alloc, &network, &state, &flows, &end)? {
-                Some(report) => Ok((Status::Done, report)),
-                None => Ok((Status::TooBig, refusal(alloc, "too big")?)),
-            }
-        }
-        Err(Incomplete::TooBig) => Ok((Status::TooBig, refusal(alloc, "too big")?)),
-        Err(Incomplete::Memory) => Err(AllocError),
-    }
-}
-
 // What a command answers to a text.
 fn command_answer(
     alloc: Global,
     command: Command,
     bytes: &[u8],
 ) -> Result<(Status, String), AllocError>
-    ensures { IfOk result (λ answer. CommandAnswers command bytes.now answer.0 (string_bytes answer.1)) }
+    requires { length bytes.now ≤ text_limit }
+    ensures { IfOk result (λ answer. Says (IsFoundBy command bytes.now) answer.0 (string_bytes answer.1)) }
 {
     match command {
-        Command::Complete => match read_job(bytes) {
-            Some(amounts) => job_answer(alloc, amounts),
-            None => Ok((Status::NotBuilt, refusal(alloc, "form not built")?)),
-        },
+        Command::Complete => complete(alloc, bytes),
     }
 }
 
@@ -107,13 +74,16 @@ fn text_answer<S: Source>(
     command: Command,
     source: &mut S,
 ) -> Result<(Status, String), Stop>
-    ensures answers { IfOk result (λ answer. AnswersTo (CommandAnswers command) (S.left source.old) answer.0 (string_bytes answer.1)) }
+    ensures answers { IfOk result (λ answer. AnswersTo (λ bytes. Says (IsFoundBy command bytes)) (S.left source.old) answer.0 (string_bytes answer.1)) }
     ensures takes { OnOk result (TakesText (S.left source.old) (S.left source.new)) }
     ensures fault { IsErrOf result Stop.ReadFault → Rose (S.faults source.old) (S.faults source.new) }
 {
     match read_all(alloc, source, TEXT_LIMIT) {
         Ok(bytes) => Ok(command_answer(alloc, command, &bytes)?),
-        Err(ReadAllError::TooLong) => { Ok((Status::NotBuilt, refusal(alloc, "form not built")?)) }
+        Err(ReadAllError::TooLong) => {
+            let why = "text longer than 1048576 bytes";
+            Ok((Status::TextTooLong, refusal(alloc, why)?))
+        }
         Err(ReadAllError::Fault) => Err(Stop::ReadFault),
         Err(ReadAllError::Memory) => Err(Stop::Memory),
     }

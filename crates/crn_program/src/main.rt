@@ -3,7 +3,8 @@
 
 ghost use Rattle.std.specs.Prelude.{map, ◌≡◌, ◌≢◌, ◌⊎◌, string_bytes};
 ghost use Rattle.crn_io.specs.Causes.{Rose};
-ghost use Rattle.crn_program.specs.Answer.{IsNoRow, Answers};
+ghost use Rattle.crn_program.specs.Answer.{Answers};
+ghost use Rattle.crn_program.specs.Words.{IsNoRow};
 ghost use Rattle.crn_program.specs.Told.{Told, AnswersTo, TakesText};
 
 use answer::{Stop, answer};
@@ -15,11 +16,10 @@ use std::rt::Env;
 use std::{env, io};
 
 mod answer;
-mod completion;
-mod job;
+mod complete;
 mod laws;
-mod minimum;
 mod report;
+mod start;
 mod status;
 
 /// Runs the program on the words: reads a text where they are a command, and writes the answer.

@@ -1,7 +1,8 @@
 ghost use Rattle.std.specs.Prelude.{◌≡◌, [], ◌∷◌, ◌++◌, codes, length, string_bytes, IfOk, OnOk, IfSome, MatchOption, MatchResult};
 ghost use Rattle.std.specs.List.{flat_map};
 ghost use Rattle.crn_net.specs.Network.{IsNetwork, amount, value_at};
-ghost use Rattle.crn_program.specs.Report.{line, size_text, amount_line, state_lines, segment_line, each_alone, output_lines, OutputFits, completion_report};
+ghost use Rattle.crn_completer.specs.Kept.{each_alone};
+ghost use Rattle.crn_program.specs.Report.{line, refusal, size_text, size_line, amount_line, state_lines, segment_line, output_lines, OutputFits};
 
 use crn_fraction::{Frac, TooBig};
 use crn_net::{Ends, Network};
@@ -78,7 +79,7 @@ fn write_output(
 }
 
 // The value of the output at a state, where it fits.
-fn value_of(network: &Network, state: &State) -> Result<Frac, TooBig>
+pub(crate) fn value_of(network: &Network, state: &State) -> Result<Frac, TooBig>
     requires { length state.now ≡ network.now.species }
     ensures { MatchResult result (λ value. OutputFits network.now.output state.now × (value ≡ value_at network.now.output (amount state.now))) (λ _. OutputFits network.now.output state.now → ⊥) }
 {
@@ -88,26 +89,39 @@ fn value_of(network: &Network, state: &State) -> Result<Frac, TooBig>
     }
 }
 
-/// The report of a completion: the network's size, the state that it begins with, its flows, and the output at its end. `None` where the value of the output
-/// does not fit.
-pub fn completion_report(
+/// The one line that refuses.
+pub(crate) fn refusal(alloc: Global, why: &str) -> Result<String, AllocError>
+    ensures { IfOk result (λ line. string_bytes line ≡ refusal why.now) }
+{
+    format!(in alloc; "refused: {why}\n")
+}
+
+/// The report of a completion up to the state from which it goes on: the network's size and the amounts of that state.
+pub(crate) fn begin_report(
     alloc: Global,
     network: &Network,
     state: &State,
-    flows: &[Flow],
-    end: &State,
-) -> Result<Option<String>, AllocError>
-    requires start { length state.now ≡ network.now.species }
-    requires end { length end.now ≡ network.now.species }
-    ensures too_big { IfOk result (λ report. MatchOption report (OutputFits network.now.output end.now → ⊥) (λ _. OutputFits network.now.output end.now)) }
-    ensures report { IfOk result (λ report. IfSome report (λ text. string_bytes text ≡ completion_report network.now state.now (each_alone flows.now) end.now)) }
+) -> Result<String, AllocError>
+    requires { length state.now ≡ network.now.species }
+    ensures { IfOk result (λ text. string_bytes text ≡ size_line network.now ++ state_lines network.now state.now) }
 {
-    let Ok(value) = value_of(network, end) else {
-        return Ok(None);
-    };
     let mut out = size_text(alloc, network.species(), network.reaction_count())?;
     write_state(&mut out, network, state)?;
-    write_flows(&mut out, flows)?;
-    write_output(&mut out, network, end, value)?;
-    Ok(Some(out))
+    Ok(out)
+}
+
+/// The rest of the report: the flows of the completion, and the output at its end, which has this value.
+pub(crate) fn end_report(
+    out: &mut String,
+    network: &Network,
+    flows: &[Flow],
+    end: &State,
+    value: Frac,
+) -> Result<(), AllocError>
+    requires long { length end.now ≡ network.now.species }
+    requires value { value ≡ value_at network.now.output (amount end.now) }
+    ensures { OnOk result (string_bytes out.new ≡ string_bytes out.old ++ ((line (codes "completion") ++ flat_map segment_line (each_alone flows.now)) ++ output_lines network.now.output end.now)) }
+{
+    write_flows(out, flows)?;
+    write_output(out, network, end, value)
 }

@@ -14,9 +14,17 @@ pub enum Status {
     WriteFault,
     /// There was no memory for the answer.
     Memory,
+    /// The text has more bytes than are read.
+    TextTooLong,
+    /// A line is not allowed where it stands, or the text ends too early.
+    Malformed,
+    /// The text has more of something than is allowed.
+    Limit,
     /// A number is too big.
     TooBig,
-    /// Texts of this form are not read yet.
+    /// A given segment is not legal.
+    Illegal,
+    /// Functions of this kind are not compiled yet.
     NotBuilt,
 }
 
@@ -31,7 +39,11 @@ impl Status {
             Status::ReadFault => 2,
             Status::WriteFault => 3,
             Status::Memory => 4,
+            Status::TextTooLong => 5,
+            Status::Malformed => 6,
+            Status::Limit => 7,
             Status::TooBig => 10,
+            Status::Illegal => 12,
             Status::NotBuilt => 14,
         }
     }

@@ -4,11 +4,9 @@ use crn_io::{MemSink, MemSource, PlainSource};
 use std::process::Abort;
 use std::test::Fail;
 
-const FUNCTION: &str = "function formula\nvariables 2\nvalue min(x1, x2)\n";
-
 const ZEROS: &str = "function formula\nvariables 2\nvalue min(x1, x2)\ninput 0 0\ninput 0 0\n";
 
-const ZEROS_REPORT: &str = "species 16 reactions 13\nstate\ncompletion\nplus 0\nminus 0\nvalue 0\n";
+const HALVES: &str = "function formula\nvariables 2\nvalue min(x1, x2)\ninput 3/2 1/2\ninput 2 0\n";
 
 fn owned(alloc: Global, words: &[&str]) -> Result<Vec<String>, AllocError> {
     words
@@ -25,62 +23,244 @@ fn ran(alloc: Global, words: &[&str], text: &str) -> Result<(Status, Vec<u8>), A
     Ok((status, sink.written().to_vec(alloc)?))
 }
 
+// Jobs of formulas, with what is answered to them.
 #[test]
-fn completes_jobs(rt: HostRuntime) -> Result<(), Fail> {
-    let halves = "species 16 reactions 13\nstate\namount S1 1/2\namount S3 1/3\ncompletion\n\
-        segment 1:1/2\nsegment 3:1/3\nsegment 5:1/2\nsegment 7:1/3\nsegment 9:1/2\nsegment 11:1/3\n\
-        segment 13:1/3\nplus 1/3\nminus 0\nvalue 1/3\n";
-    for (inputs, report) in [
-        ("input 0 0\ninput 0 0\n", ZEROS_REPORT),
-        ("input 2/4 0\ninput 3/9 0\n", halves),
+fn answers_to_jobs(rt: HostRuntime) -> Result<(), Fail> {
+    for (text, wanted, answer) in [
+        (
+            // complete affine max
+            "function formula\nvariables 1\nvalue max(x1, 3)\ninput 0 0\n",
+            Status::Done,
+            "species 14 reactions 11\nstate\namount S3 1\ncompletion\nsegment 3:1\nsegment 6:1\nsegment 8:3\nplus 3\nminus 0\nvalue 3\n",
+        ),
+        (
+            // complete after a segment
+            "function formula\nvariables 2\nvalue min(x1, x2)\ninput 3/2 1/2\ninput 2 0\nsegment 1:1 3:1\n",
+            Status::Done,
+            "species 16 reactions 13\nstate\namount S1 1/2\namount S2 1/2\namount S3 1\namount S5 1\namount S7 1\ncompletion\nsegment 1:1/2\nsegment 2:1/2\nsegment 3:1\nsegment 5:3/2\nsegment 6:1/2\nsegment 7:2\nsegment 9:3/2\nsegment 11:2\nsegment 12:1/2\nsegment 13:3/2\nplus 3/2\nminus 1/2\nvalue 1\n",
+        ),
+        (
+            // complete after its own completion
+            "function formula\nvariables 2\nvalue min(x1, x2)\ninput 3/2 1/2\ninput 2 0\nsegment 1:3/2\nsegment 2:1/2\nsegment 3:2\nsegment 5:3/2\nsegment 6:1/2\nsegment 7:2\nsegment 9:3/2\nsegment 11:2\nsegment 12:1/2\nsegment 13:3/2\n",
+            Status::Done,
+            "species 16 reactions 13\nstate\namount S14 1\namount S15 3/2\namount S16 1/2\ncompletion\nplus 3/2\nminus 1/2\nvalue 1\n",
+        ),
+        (
+            // complete difference with itself
+            "function formula\nvariables 1\nvalue sub(x1, x1)\ninput 5 2\n",
+            Status::Done,
+            "species 12 reactions 10\nstate\namount S1 5\namount S2 2\ncompletion\nsegment 1:5\nsegment 2:2\nsegment 3:5\nsegment 4:2\nsegment 5:5\nsegment 6:2\nsegment 7:5\nsegment 8:2\nsegment 9:5\nsegment 10:2\nplus 7\nminus 7\nvalue 0\n",
+        ),
+        (
+            // complete greatest number
+            "function formula\nvariables 2\nvalue 9223372036854775807x1 + 1/9223372036854775807x2\ninput 1 0\ninput 0 0\n",
+            Status::Done,
+            "species 10 reactions 8\nstate\namount S1 1\ncompletion\nsegment 1:1\nsegment 5:1\nplus 9223372036854775807\nminus 0\nvalue 9223372036854775807\n",
+        ),
+        (
+            // complete max of two
+            "function formula\nvariables 2\nvalue max(x1, x2)\ninput 3 1\ninput 2 0\n",
+            Status::Done,
+            "species 16 reactions 13\nstate\namount S1 3\namount S2 1\namount S3 2\ncompletion\nsegment 1:3\nsegment 2:1\nsegment 3:2\nsegment 5:3\nsegment 6:1\nsegment 7:2\nsegment 9:1\nsegment 10:2\nsegment 12:3\nsegment 13:3\nplus 5\nminus 3\nvalue 2\n",
+        ),
+        (
+            // complete min equal values
+            "function formula\nvariables 2\nvalue min(x1, x2)\ninput 5/6 1/3\ninput 3/2 1\n",
+            Status::Done,
+            "species 16 reactions 13\nstate\namount S1 5/6\namount S2 1/3\namount S3 3/2\namount S4 1\ncompletion\nsegment 1:5/6\nsegment 2:1/3\nsegment 3:3/2\nsegment 4:1\nsegment 5:5/6\nsegment 6:1/3\nsegment 7:3/2\nsegment 8:1\nsegment 9:5/6\nsegment 10:1\nsegment 11:3/2\nsegment 12:1/3\nsegment 13:11/6\nplus 11/6\nminus 4/3\nvalue 1/2\n",
+        ),
+        (
+            // complete min great denominators
+            "function formula\nvariables 2\nvalue min(x1, x2)\ninput 1/3037000493 0\ninput 0 1/3037000499\n",
+            Status::Done,
+            "species 16 reactions 13\nstate\namount S1 1/3037000493\namount S4 1/3037000499\ncompletion\nsegment 1:1/3037000493\nsegment 4:1/3037000499\nsegment 5:1/3037000493\nsegment 8:1/3037000499\nsegment 9:1/3037000493\nsegment 10:1/3037000499\nplus 0\nminus 1/3037000499\nvalue -1/3037000499\n",
+        ),
+        (
+            // complete min negative values
+            "function formula\nvariables 2\nvalue min(x1, x2)\ninput 1/3 5/2\ninput 0 7/9\n",
+            Status::Done,
+            "species 16 reactions 13\nstate\namount S1 1/3\namount S2 5/2\namount S4 7/9\ncompletion\nsegment 1:1/3\nsegment 2:5/2\nsegment 4:7/9\nsegment 5:1/3\nsegment 6:5/2\nsegment 8:7/9\nsegment 9:1/3\nsegment 10:7/9\nsegment 12:5/2\nsegment 13:10/9\nplus 10/9\nminus 59/18\nvalue -13/6\n",
+        ),
+        (
+            // complete min of two
+            "function formula\nvariables 2\nvalue min(x1, x2)\ninput 3/2 1/2\ninput 2 0\n",
+            Status::Done,
+            "species 16 reactions 13\nstate\namount S1 3/2\namount S2 1/2\namount S3 2\ncompletion\nsegment 1:3/2\nsegment 2:1/2\nsegment 3:2\nsegment 5:3/2\nsegment 6:1/2\nsegment 7:2\nsegment 9:3/2\nsegment 11:2\nsegment 12:1/2\nsegment 13:3/2\nplus 3/2\nminus 1/2\nvalue 1\n",
+        ),
+        (
+            // complete min of zeros
+            "function formula\nvariables 2\nvalue min(x1, x2)\ninput 0 0\ninput 0 0\n",
+            Status::Done,
+            "species 16 reactions 13\nstate\ncompletion\nplus 0\nminus 0\nvalue 0\n",
+        ),
+        (
+            // complete min unreduced fractions
+            "function formula\nvariables 2\nvalue min(x1, x2)\ninput 2/4 6/3\ninput 10/5 0/7\n",
+            Status::Done,
+            "species 16 reactions 13\nstate\namount S1 1/2\namount S2 2\namount S3 2\ncompletion\nsegment 1:1/2\nsegment 2:2\nsegment 3:2\nsegment 5:1/2\nsegment 6:2\nsegment 7:2\nsegment 9:1/2\nsegment 11:2\nsegment 12:2\nsegment 13:1/2\nplus 1/2\nminus 2\nvalue -3/2\n",
+        ),
+        (
+            // complete negative scale
+            "function formula\nvariables 1\nvalue scale(-2/3, x1)\ninput 6 3/2\n",
+            Status::Done,
+            "species 8 reactions 6\nstate\namount S1 6\namount S2 3/2\ncompletion\nsegment 1:6\nsegment 2:3/2\nsegment 3:6\nsegment 4:3/2\nsegment 5:2\nsegment 6:1/2\nplus 1\nminus 4\nvalue -3\n",
+        ),
+        (
+            // complete product fits though unreduced does not
+            "function formula\nvariables 1\nvalue 2x1\ninput 9223372036854775807/2 0\n",
+            Status::Done,
+            "species 6 reactions 4\nstate\namount S1 9223372036854775807/2\ncompletion\nsegment 1:9223372036854775807/2\nsegment 3:9223372036854775807/2\nplus 9223372036854775807\nminus 0\nvalue 9223372036854775807\n",
+        ),
+        (
+            // complete sum with itself
+            "function formula\nvariables 1\nvalue add(x1, x1)\ninput 1 0\n",
+            Status::Done,
+            "species 12 reactions 10\nstate\namount S1 1\ncompletion\nsegment 1:1\nsegment 3:1\nsegment 5:1\nsegment 7:1\nsegment 9:1\nplus 2\nminus 0\nvalue 2\n",
+        ),
+        (
+            // complete with comments and carriage returns
+            "# least of two\r\n\r\nfunction formula\r\nvariables 2\r\nvalue min(x1, x2)\r\ninput 3/2 1/2\r\ninput 2 0",
+            Status::Done,
+            "species 16 reactions 13\nstate\namount S1 3/2\namount S2 1/2\namount S3 2\ncompletion\nsegment 1:3/2\nsegment 2:1/2\nsegment 3:2\nsegment 5:3/2\nsegment 6:1/2\nsegment 7:2\nsegment 9:3/2\nsegment 11:2\nsegment 12:1/2\nsegment 13:3/2\nplus 3/2\nminus 1/2\nvalue 1\n",
+        ),
+        (
+            // illegal no such reaction
+            "function formula\nvariables 2\nvalue min(x1, x2)\ninput 3/2 1/2\ninput 2 0\nsegment 14:1\n",
+            Status::Illegal,
+            "refused: segment 1 has no reaction 14\n",
+        ),
+        (
+            // illegal no such reaction after a good flow
+            "function formula\nvariables 2\nvalue min(x1, x2)\ninput 3/2 1/2\ninput 2 0\nsegment 1:1 14:1\n",
+            Status::Illegal,
+            "refused: segment 1 has no reaction 14\n",
+        ),
+        (
+            // illegal reactant made in the same segment
+            "function formula\nvariables 2\nvalue min(x1, x2)\ninput 3/2 1/2\ninput 2 0\nsegment 1:1 5:1/2\n",
+            Status::Illegal,
+            "refused: segment 1 reaction 5 needs S5\n",
+        ),
+        (
+            // illegal reactant not present
+            "function formula\nvariables 2\nvalue min(x1, x2)\ninput 3/2 1/2\ninput 2 0\nsegment 1:1 5:1\n",
+            Status::Illegal,
+            "refused: segment 1 reaction 5 needs S5\n",
+        ),
+        (
+            // illegal takes more
+            "function formula\nvariables 2\nvalue min(x1, x2)\ninput 3/2 1/2\ninput 2 0\nsegment 1:2\n",
+            Status::Illegal,
+            "refused: segment 1 takes more S1 than is there\n",
+        ),
+        (
+            // malformed direct input
+            "function direct\nvariables 2\nform 2x1 + x2\nform 3x2\ninput -1\ninput 1\n",
+            Status::Malformed,
+            "refused: malformed line 5\n",
+        ),
+        (
+            // malformed leading zero
+            "function formula\nvariables 2\nvalue min(x1, x2)\ninput 03/2 1/2\ninput 2 0\n",
+            Status::Malformed,
+            "refused: malformed line 4\n",
+        ),
+        (
+            // malformed zero denominator
+            "function formula\nvariables 2\nvalue min(x1, x2)\ninput 3/0 1/2\ninput 2 0\n",
+            Status::Malformed,
+            "refused: malformed line 4\n",
+        ),
+        (
+            // not built absolute value of pieces
+            "function pieces\nvariables 1\npiece x1\nwhen x1 >= 0\npiece -x1\nwhen -x1 >= 0\ninput 0 3\n",
+            Status::NotBuilt,
+            "refused: form not built\n",
+        ),
+        (
+            // not built direct
+            "function direct\nvariables 2\nform 2x1 + x2\nform 3x2\ninput 1\ninput 1\n",
+            Status::NotBuilt,
+            "refused: form not built\n",
+        ),
+        (
+            // not built median of three
+            "function pieces\nvariables 3\npiece x2\nwhen x2 - x1 >= 0\nwhen x3 - x2 >= 0\npiece x3\nwhen x3 - x1 >= 0\nwhen x2 - x3 >= 0\npiece x1\nwhen x1 - x2 >= 0\nwhen x3 - x1 >= 0\npiece x3\nwhen x3 - x2 >= 0\nwhen x1 - x3 >= 0\npiece x1\nwhen x1 - x3 >= 0\nwhen x2 - x1 >= 0\npiece x2\nwhen x2 - x3 >= 0\nwhen x1 - x2 >= 0\ninput 4 0\ninput 0 1\ninput 2 0\n",
+            Status::NotBuilt,
+            "refused: form not built\n",
+        ),
+        (
+            // too big in completion first term
+            "function formula\nvariables 2\nvalue 9223372036854775807x1 + 1/9223372036854775807x2\ninput 2 0\ninput 2 0\n",
+            Status::TooBig,
+            "refused: too big in completion of reaction 5 at S9\n",
+        ),
+        (
+            // too big in completion of min
+            "function formula\nvariables 2\nvalue min(x1, x2)\ninput 0 9223372036854775807\ninput 1 0\n",
+            Status::TooBig,
+            "refused: too big in completion of reaction 12 at S14\n",
+        ),
+        (
+            // too big in completion second term
+            "function formula\nvariables 2\nvalue 9223372036854775807x1 + 1/9223372036854775807x2\ninput 1 0\ninput 1 0\n",
+            Status::TooBig,
+            "refused: too big in completion of reaction 7 at S9\n",
+        ),
     ] {
-        let text = format!(in rt.alloc(); "{FUNCTION}{inputs}")?;
-        let (status, written) = ran(rt.alloc(), &["complete"], text.as_str())?;
-        assert_eq!(rt; status, Status::Done, "{inputs}");
-        assert!(rt; written.as_slice() == report.as_bytes(), "{inputs}");
+        let (status, written) = ran(rt.alloc(), &["complete"], text)?;
+        assert_eq!(rt; status, wanted, "{text}");
+        assert!(rt; written.as_slice() == answer.as_bytes(), "{text}");
     }
     Ok(())
 }
 
+// A text that is cut short is malformed at the line that is cut, or at the line past the last.
 #[test]
-fn refuses_other_texts(rt: HostRuntime) -> Result<(), Fail> {
-    for inputs in [
-        "",
-        "input 0 0\n",
-        "input 0 0\ninput 0 0",
-        "input 0 0\ninput 0 0\n\n",
-        "input 00 0\ninput 0 0\n",
-        "input 1/0 0\ninput 0 0\n",
-        "input -1 0\ninput 0 0\n",
-        "input  0 0\ninput 0 0\n",
-        "input 9223372036854775808 0\ninput 0 0\n",
+fn answers_to_a_text_cut_short(rt: HostRuntime) -> Result<(), Fail> {
+    for (least, past, line) in [
+        (0usize, 16usize, 1u32),
+        (16, 28, 2),
+        (28, 46, 3),
+        (46, 58, 4),
+        (58, 59, 5),
+        (59, 60, 4),
+        (60, 70, 5),
+        (70, 72, 0),
     ] {
-        let text = format!(in rt.alloc(); "{FUNCTION}{inputs}")?;
-        let (status, written) = ran(rt.alloc(), &["complete"], text.as_str())?;
-        assert_eq!(rt; status, Status::NotBuilt, "{inputs}");
-        assert!(rt;
-            written.as_slice() == b"refused: form not built\n".as_slice(),
-            "{inputs}"
-        );
+        for count in least..past {
+            let Some(front) = HALVES.get(..count) else {
+                assert!(rt; false, "the text is longer");
+                return Ok(());
+            };
+            let (status, written) = ran(rt.alloc(), &["complete"], front)?;
+            if line == 0 {
+                assert_eq!(rt; status, Status::Done, "{count}");
+            } else {
+                let wanted = format!(in rt.alloc(); "refused: malformed line {line}\n")?;
+                assert_eq!(rt; status, Status::Malformed, "{count}");
+                assert!(rt; written.as_slice() == wanted.as_bytes(), "{count}");
+            }
+        }
     }
     Ok(())
 }
 
-// A product of the completion does not fit, and then the value alone: 4294967291 and 4294967279 are prime.
+// As many given segments as a text may have, and one more.
 #[test]
-fn refuses_what_does_not_fit(rt: HostRuntime) -> Result<(), Fail> {
-    for inputs in [
-        "input 0 9223372036854775807\ninput 1 0\n",
-        "input 1/4294967291 1/4294967279\ninput 4294967278/4294967279 0\n",
-    ] {
-        let text = format!(in rt.alloc(); "{FUNCTION}{inputs}")?;
-        let (status, written) = ran(rt.alloc(), &["complete"], text.as_str())?;
-        assert_eq!(rt; status, Status::TooBig, "{inputs}");
-        assert!(rt;
-            written.as_slice() == b"refused: too big\n".as_slice(),
-            "{inputs}"
-        );
+fn answers_to_many_segments(rt: HostRuntime) -> Result<(), Fail> {
+    let mut text = String::new(rt.alloc());
+    text.push_str(HALVES)?;
+    for _ in 0..10_000u32 {
+        text.push_str("segment 1:1/10000\n")?;
     }
+    let (status, written) = ran(rt.alloc(), &["complete"], text.as_str())?;
+    assert_eq!(rt; status, Status::Done);
+    assert!(rt; written.ends_with(b"plus 3/2\nminus 1/2\nvalue 1\n".as_slice()));
+    text.push_str("segment 1:1/10000\n")?;
+    let (status, written) = ran(rt.alloc(), &["complete"], text.as_str())?;
+    assert_eq!(rt; status, Status::Limit);
+    assert!(rt; written.as_slice() == b"refused: limit segments 10001\n".as_slice());
     Ok(())
 }
 
@@ -102,6 +282,7 @@ fn refuses_other_words(rt: HostRuntime) -> Result<(), Fail> {
     refused_words(&rt, rt.alloc(), &["--help"])?;
     refused_words(&rt, rt.alloc(), &["complete", ""])?;
     refused_words(&rt, rt.alloc(), &["bulk", "0"])?;
+    refused_words(&rt, rt.alloc(), &["complete", "complete"])?;
     Ok(())
 }
 
@@ -112,7 +293,8 @@ fn refuses_a_text_past_the_limit(rt: HostRuntime) -> Result<(), Fail> {
     let mut sink = MemSink::new(rt.alloc(), 4096, 1000, Vec::new(rt.alloc()))?;
     let words = owned(rt.alloc(), &["complete"])?;
     let status = top(rt.alloc(), &words, &mut source, &mut sink);
-    assert_eq!(rt; status, Status::NotBuilt);
+    assert_eq!(rt; status, Status::TextTooLong);
+    assert!(rt; sink.written() == b"refused: text longer than 1048576 bytes\n".as_slice());
     let mut rest = [0u8; 4];
     assert_eq!(rt;
         source.read(&mut rest),
@@ -155,7 +337,11 @@ fn numbers_its_statuses(rt: HostRuntime) {
         (Status::ReadFault, 2),
         (Status::WriteFault, 3),
         (Status::Memory, 4),
+        (Status::TextTooLong, 5),
+        (Status::Malformed, 6),
+        (Status::Limit, 7),
         (Status::TooBig, 10),
+        (Status::Illegal, 12),
         (Status::NotBuilt, 14),
     ] {
         assert_eq!(rt; status.number(), number);
