@@ -1,6 +1,6 @@
 -- The formula that tokens spell.
-use Rattle.std.proofs.Common.{◌≡◌, ℕ, suc, ◌+◌, ◌<◌, ◌≤◌, Bool, true, false, cond, List, [], ◌∷◌, ◌++◌, length, map, Option, Some, None, refl, sym, ◌∙◌, ap, subst, arith, append-nil, append_assoc, length-append, lt-ltb, take, ⊎_elim, take_all, eqb-true}
-use Rattle.std.proofs.lemmas.Bool.{le-leb, leb-true, cases_Bool}
+use Rattle.std.proofs.Common.{◌≡◌, ◌≢◌, ℕ, suc, ◌+◌, ◌<◌, ◌≤◌, Bool, true, false, cond, List, [], ◌∷◌, ◌++◌, length, map, Option, Some, None, refl, sym, ◌∙◌, ap, subst, arith, append-nil, append_assoc, length-append, lt-ltb, take, ⊎_elim, take_all, eqb-true}
+use Rattle.std.proofs.lemmas.Bool.{le-leb, leb-true, cases_Bool, eqb-false}
 use Rattle.std.proofs.lemmas.List.{length-take-le, length-replicate, get_or_default}
 use Rattle.std.proofs.lemmas.List.Elements.{All-take, All-replicate}
 use Rattle.std.specs.Prelude.{All, nat_le, ◌==◌, pos, codes, slice_set}
@@ -87,7 +87,7 @@ form_long k f ts few is = let (terms, are, tokens) = form_spelled k f ts few is 
 
 -- ---- forms without negative coefficients
 -- what all the tokens spell is the longest that begins them
-all_found : (k : ℕ) (f : List ℚ) (ts : List Plain) → k ≤ 8 → plain_form_of k ts ≡ Some f → SpellsPlain k f ts
+pub all_found : (k : ℕ) (f : List ℚ) (ts : List Plain) → k ≤ 8 → plain_form_of k ts ≡ Some f → SpellsPlain k f ts
 all_found k f ts few is = go (plain_form_at k ts) refl is
   where
     go : (o : Option (List ℚ × ℕ)) → plain_form_at k ts ≡ o → if_all (length ts) o ≡ Some f → SpellsPlain k f ts
@@ -100,6 +100,21 @@ all_found k f ts few is = go (plain_form_at k ts) refl is
             let at_end : n ≡ length ts = eqb-true n (length ts) same in
             let is_found : IsFound k ts (Some (g, n)) = subst (IsFound k ts) e (plain_found k ts few) in
             subst (λ h. SpellsPlain k h ts) (some_alike g f found) (subst (SpellsPlain k g) (ap (λ m. take m ts) at_end ∙ take_all (length ts) ts (omega arith)) is_found.1)
+
+-- and where they are no such form, they spell none
+pub none_found : (k : ℕ) (f : List ℚ) (ts : List Plain) → k ≤ 8 → plain_form_of k ts ≡ None → SpellsPlain k f ts → ⊥
+none_found k f ts few is spells = go (plain_form_at k ts) (plain_found k ts few) is
+  where
+    all : SpellsPlain k f (take (length ts) ts)
+    all = subst (SpellsPlain k f) (sym (take_all (length ts) ts (omega arith))) spells
+
+    go : (o : Option (List ℚ × ℕ)) → IsFound k ts o → if_all (length ts) o ≡ None → ⊥
+    go None found none = found (length ts) f (omega arith) all
+    go (Some (g, n)) found none = ends (n == length ts) refl none
+      where
+        ends : (b : Bool) → (n == length ts) ≡ b → cond b (Some g) None ≡ None → ⊥
+        ends true same wrong = absurd (none_some g (sym wrong))
+        ends false other wrong = let apart : n ≢ length ts = eqb-false n (length ts) other in found.2 (length ts) f (omega (arith, found.0, apart)) (omega arith) all
 
 pub plain_form_long : (k : ℕ) (f : List ℚ) (ts : List Plain) → k ≤ 8 → plain_form_of k ts ≡ Some f → length f ≡ k
 plain_form_long k f ts few is =

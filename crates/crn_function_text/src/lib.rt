@@ -12,6 +12,7 @@ ghost use Rattle.crn_formula.specs.Views.{kind_of};
 ghost use Rattle.crn_function_text.specs.Grammar.{PlainFunction, function_table, line_number, end_of, function_part, function_answer};
 ghost use Rattle.crn_function_text.specs.Reading.{shown, function_of, Gives, GivesPart, IsRight, IsKept};
 
+pub use crn_form_text::read_plain_form;
 use crn_formula::Function;
 use crn_token::{Counted, Lines, token_lines};
 use place::Place;
@@ -20,6 +21,7 @@ use thiserror::Error;
 use words::{first_word, tokens_of};
 
 mod columns;
+pub mod laws;
 mod place;
 mod words;
 

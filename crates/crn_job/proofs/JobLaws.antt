@@ -111,16 +111,17 @@ zeros rails.Direct = PlainNumber (pos 0) ∷ []
 abbrev input_line : Rails → PlainLine
 input_line kind = record { number = 0; bad = false; tokens = PlainWord (codes "input") ∷ zeros kind }
 
+-- an input line of zeros may follow while one is to come
+zeros_lead : (n : ℕ) (t : Tail) (kind : Rails) → t.left ≡ suc n → t.rails ≡ kind → tail_next t (input_line t.rails) ≡ Some (with_input t n (nothing t.rails))
+zeros_lead n t rails.Dual some is = rw (is, some) refl
+zeros_lead n t rails.Direct some is = rw (is, some) refl
+
 ends_tail : (left : ℕ) (f : PlainFunction) (t : Tail) → t.left ≡ left → EndsJob (at_tail f t)
 ends_tail zero f t none = ([], at_tail f t, job_with f (record { amounts = t.amounts; segments = t.segments }), refl, ap (λ n. option_map (job_with f) (value_at n t)) none)
 ends_tail (suc n) f t some =
     ends_after (at_tail f t) (at_tail f (with_input t n (nothing t.rails))) (input_line t.rails)
-    (ap (λ o. option_map (λ r. After r) (option_map (λ u. record { function = f; tail = u }) o)) (led t.rails refl))
+    (ap (λ o. option_map (λ r. After r) (option_map (λ u. record { function = f; tail = u }) o)) (zeros_lead n t t.rails some refl))
     (ends_tail n f (with_input t n (nothing t.rails)) refl)
-  where
-    led : (kind : Rails) → t.rails ≡ kind → tail_next t (input_line t.rails) ≡ Some (with_input t n (nothing t.rails))
-    led rails.Dual is = rw (is, some) refl
-    led rails.Direct is = rw (is, some) refl
 
 -- where a function is whole, input lines of zeros make a job of it
 ends_whole : (s : Place) (f : PlainFunction) (n : ℕ) → whole s ≡ Some f → f.variables ≡ n → EndsJob (Part s)
@@ -200,3 +201,18 @@ ends_job (After r) is = ends_tail r.tail.left r.function r.tail refl
 
 pub job_places_can_end : CanEnd job_table
 job_places_can_end = can_end job_table fine tt kept ends_job
+
+-- ---- the lines after the function part alone
+module _ (kind : Rails) (inputs : ℕ) where
+  abbrev EndsTail : Tail → Type 0
+  EndsTail s = (more : List PlainLine) × (t : Tail) × (v : TailValue) × (after (tail_table kind inputs) s more ≡ Some t) × (tail_whole t ≡ Some v)
+
+  inputs_end : (left : ℕ) (t : Tail) → t.left ≡ left → EndsTail t
+  inputs_end zero t none = ([], t, record { amounts = t.amounts; segments = t.segments }, refl, ap (λ n. value_at n t) none)
+  inputs_end (suc n) t some = go (inputs_end n (with_input t n (nothing t.rails)) refl)
+    where
+      go : EndsTail (with_input t n (nothing t.rails)) → EndsTail t
+      go (more, u, v, there, end) = (input_line t.rails ∷ more, u, v, ap (option_and_then (λ w. after (tail_table kind inputs) w more)) (zeros_lead n t t.rails some refl) ∙ there, end)
+
+  pub tail_places_can_end : CanEnd (tail_table kind inputs)
+  tail_places_can_end = can_end (tail_table kind inputs) (λ t. Unit {0}) tt (λ s line t is e. tt) (λ t is. inputs_end t.left t refl)

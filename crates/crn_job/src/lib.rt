@@ -25,6 +25,7 @@ use tail::Tail;
 use thiserror::Error;
 use words::{first_word, rest_of, tokens_of};
 
+pub mod laws;
 mod tail;
 mod words;
 

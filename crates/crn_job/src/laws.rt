@@ -1,0 +1,11 @@
+//! What holds of job text. Each function here does nothing: its contract is a theorem about the definitions of `specs/`.
+ghost use Rattle.std.specs.Prelude.{ℕ};
+ghost use Rattle.crn_grammar.specs.Table.{CanEnd};
+ghost use Rattle.crn_net.specs.declared.Rails.{Rails};
+ghost use Rattle.crn_job.specs.Grammar.{job_table, tail_table};
+
+/// Wherever lines lead that begin a text, some lines more end one. So the answer line by line is the right one, of a job and of the lines after its function part.
+pub fn places_can_end()
+    ensures job { CanEnd job_table }
+    ensures tail { (rails : Rails) (inputs : ℕ) → CanEnd (tail_table rails inputs) }
+{}
