@@ -1,9 +1,9 @@
 //! What holds of layouts. Each function here does nothing: its contract is a theorem about the definitions of specs/, proved with the crate.
-ghost use Rattle.std.specs.Prelude.{◌≡◌, ℕ, List, Some};
+ghost use Rattle.std.specs.Prelude.{◌≡◌, ◌≤◌, ◌+◌, ◌*◌, ℕ, List, Some};
 ghost use Rattle.crn_fraction.specs.Rational.{ℚ};
 ghost use Rattle.crn_net.specs.Network.{IsNetwork, IsFeedForward};
 ghost use Rattle.crn_net.specs.Minimum.{minimum};
-ghost use Rattle.crn_formula.specs.Formulas.{Formula};
+ghost use Rattle.crn_formula.specs.Formulas.{Formula, node_count};
 ghost use Rattle.crn_formula.specs.Functions.{ByFormula, IsFitting, is_affine, kind_value, point_of};
 ghost use Rattle.crn_dual.specs.Columns.{IsOverVariables, has_context, value_over};
 ghost use Rattle.crn_dual.specs.Computes.{Computes};
@@ -27,6 +27,11 @@ pub fn layouts_of_functions()
     ensures over { (k : ℕ) (e : Formula) → IsFitting k (ByFormula e) → IsOverVariables k e }
     ensures context { (k : ℕ) (e : Formula) → IsFitting k (ByFormula e) → has_context k e ≡ is_affine k (ByFormula e) }
     ensures value { (k : ℕ) (e : Formula) (x : List ℚ) → IsFitting k (ByFormula e) → kind_value (ByFormula e) (point_of k (ByFormula e) x) ≡ Some (value_over k e x) }
+{}
+
+/// A layout has at most 17 species for inputs and context and 22 for each node of the formula, so that of a function within its limits is a network.
+pub fn layouts_are_small()
+    ensures { (k : ℕ) (e : Formula) → k ≤ 8 → IsOverVariables k e → (layout k e).species ≤ 17 + 22 * node_count e }
 {}
 
 /// Two layouts written out: the lesser of two variables, and the greater of a variable and 3, which has a context.
