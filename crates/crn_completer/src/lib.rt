@@ -73,6 +73,7 @@ impl Completer {
         ensures network { replay.new.network ≡ replay.old.network }
         ensures room { self.new.room ≡ self.old.room }
     {
+        // That the replay stands at a state is told where it is read.
         let _state = replay.state();
         self.flows.clear();
         for number in 1..=replay.network().reaction_count() {

@@ -84,20 +84,25 @@ pub struct Pair {
 /// What a copy is of. Variables are numbered from 1.
 #[derive(Clone, Copy, Debug, PartialEq, Eq)]
 pub enum Use {
+    /// The variable of this number.
     Variable(usize),
+    /// The context species, which begins with the amount 1.
     Context,
 }
 
 /// A copy: both rails of a variable, or the context's one.
 #[derive(Debug, Drop)]
 pub enum Copied {
+    /// Of a variable.
     Both(Pair),
+    /// Of the context.
     Single(Rail),
 }
 
 /// Why a builder goes no further. It is dropped then, and so are the rails that were moved into the call.
 #[derive(Clone, Copy, Debug, PartialEq, Eq, Error)]
 pub enum BuildError {
+    /// The network would have more than 65,536 species.
     #[error("more than 65536 species")]
     TooLarge,
     #[error("out of memory")]
@@ -454,7 +459,7 @@ fn first_species(rails: Rails, variables: usize, context: bool) -> u32
     if context { inputs + 1 } else { inputs }
 }
 
-// What is left of the reasons to refuse parts.
+// Of a network that feeds forward, with few enough species, `Network::make` can only lack memory.
 fn want_of_memory(_error: NetworkError) -> AllocError
     requires { _error ≡ refusal.Memory }
 {

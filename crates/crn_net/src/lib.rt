@@ -25,14 +25,18 @@ mod takers;
 /// Whether a number is the difference of the amounts of two species, or the amount of one.
 #[derive(Clone, Copy, Debug, PartialEq, Eq)]
 pub enum Rails {
+    /// The difference of two species.
     Dual,
+    /// One species.
     Direct,
 }
 
 /// An input or an output: the species plus and minus of a dual network, or the one species of a direct network. Species are numbered from 1.
 #[derive(Clone, Copy, Debug, PartialEq, Eq)]
 pub enum Ends {
+    /// Plus and minus.
     Pair(u32, u32),
+    /// The one species.
     One(u32),
 }
 
@@ -132,6 +136,7 @@ impl Network {
         Ok(Network { parts, takers })
     }
 
+    /// How numbers are held.
     pub fn rails(&self) -> Rails
         ensures value { result ≡ self.now.rails }
         ensures valid { IsNetwork self.now }
@@ -148,6 +153,7 @@ impl Network {
         self.parts.species
     }
 
+    /// The number of reactions.
     pub fn reaction_count(&self) -> u32
         ensures value { result ≡ length self.now.reactions }
         ensures valid { IsNetwork self.now }
@@ -175,6 +181,7 @@ impl Network {
         self.takers.at(species)
     }
 
+    /// The species of the inputs, in order.
     pub fn inputs(&self) -> &[Ends]
         ensures value { result.now ≡ self.now.inputs }
         ensures valid { IsNetwork self.now }
@@ -183,6 +190,7 @@ impl Network {
         &self.parts.inputs
     }
 
+    /// The species of the output.
     pub fn output(&self) -> Ends
         ensures value { result ≡ self.now.output }
         ensures valid { IsNetwork self.now }
@@ -190,6 +198,7 @@ impl Network {
         self.parts.output
     }
 
+    /// The species that begins with the amount 1, where there is one.
     pub fn context(&self) -> Option<u32>
         ensures value { result ≡ self.now.context }
         ensures valid { IsNetwork self.now }

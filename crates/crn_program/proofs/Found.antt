@@ -5,7 +5,7 @@ use Rattle.crn_net.specs.Network.{Network, IsNetwork, IsFeedForward, AreNotNegat
 use Rattle.crn_net.specs.declared.Flow.{Flow}
 use Rattle.crn_net.proofs.Settling.{confluent}
 use Rattle.crn_net.proofs.Start.{start_is_state}
-use Rattle.crn_segments.specs.Steps.{AreSegments}
+use Rattle.crn_segments.specs.Steps.{AreSegments, StepsGo}
 use Rattle.crn_segments.proofs.Runs.{steps_run}
 use Rattle.crn_completer.specs.Refusal.{completion_refusal}
 use Rattle.crn_completer.proofs.Fitting.{completion_fits}
@@ -13,7 +13,7 @@ use Rattle.crn_grammar.specs.Table as grammar
 use Rattle.crn_token.specs.declared.Counted.{Counted}
 use Rattle.crn_program.specs.Report.{OutputFits, refusal}
 use Rattle.crn_program.specs.Finding.{Finding, NoCommand, LongText, WrongLine, PastLimit, OtherKind, RefusedSegment, Unfinished, NoValue, Completed, status_of_step, step_words, text_of}
-use Rattle.crn_program.specs.Answer.{Says, Leads, IsRefused, IsCompleted, IsOtherKind, IsFoundOf, IsFoundInText, IsFoundInJob, IsJobAnswer, text_limit}
+use Rattle.crn_program.specs.Answer.{Says, IsRefused, IsCompleted, IsOtherKind, IsFoundOf, IsFoundInText, IsFoundInJob, IsJobAnswer, text_limit}
 use Rattle.crn_formula.specs.Formulas.{Formula}
 use Rattle.crn_formula.specs.Functions.{ByFormula}
 use Rattle.crn_net.specs.Network.{AreAmounts, encoded}
@@ -28,7 +28,7 @@ use Rattle.crn_program.specs.Ending.{IsFoundFrom, IsFoundInJobOf}
 
 -- a job is completed where its segments lead to c and the completion from there fits
 pub is_completed : (net : Network) (value : ℚ) (xs : List ℚ) (us : List (List Flow)) (c : List ℚ) → IsNetwork net → IsFeedForward net → AreNotNegative xs → AreSegments us
-    → StablyComputes net xs value → Leads net (start net xs) us c → completion_refusal net c ≡ None → OutputFits net.output (completed net c) → IsCompleted net value xs us c
+    → StablyComputes net xs value → StepsGo net (start net xs) us c → completion_refusal net c ≡ None → OutputFits net.output (completed net c) → IsCompleted net value xs us c
 is_completed net value xs us c ok feeds given segments computes leads fits output_fits =
     let run = (steps_run net (start net xs) us c segments leads).0 in
     let settled = computes.settles us c run in
@@ -46,7 +46,7 @@ is_completed net value xs us c ok feeds given segments computes leads fits outpu
 
 -- what is found from c on is found of the job whose segments lead to c
 pub found_of : (net : Network) (value : ℚ) (xs : List ℚ) (us : List (List Flow)) (c : List ℚ) (f : Finding) → IsNetwork net → IsFeedForward net → AreNotNegative xs → AreSegments us
-    → StablyComputes net xs value → Leads net (start net xs) us c → IsFoundFrom net c f → IsFoundOf net value xs us f
+    → StablyComputes net xs value → StepsGo net (start net xs) us c → IsFoundFrom net c f → IsFoundOf net value xs us f
 found_of net value xs us c NoCommand ok feeds given segments computes leads found = absurd found
 found_of net value xs us c LongText ok feeds given segments computes leads found = absurd found
 found_of net value xs us c (WrongLine n) ok feeds given segments computes leads found = absurd found
@@ -62,13 +62,13 @@ found_of net value xs us c (Completed n d) ok feeds given segments computes lead
 
 -- after its segments
 pub says_of : (net : Network) (value : ℚ) (xs : List ℚ) (us : List (List Flow)) (p q : Progress) (s : Status) (text : List ℕ) → IsNetwork q.network → IsFeedForward net → AreAmounts net xs → StablyComputes net xs value
-    → p.network ≡ net → p.state ≡ start net xs → q.network ≡ p.network → Leads p.network p.state us q.state → AreSegments us → Says (IsFoundFrom q.network q.state) s text → Says (IsFoundOf net value xs us) s text
+    → p.network ≡ net → p.state ≡ start net xs → q.network ≡ p.network → StepsGo p.network p.state us q.state → AreSegments us → Says (IsFoundFrom q.network q.state) s text → Says (IsFoundOf net value xs us) s text
 says_of net value xs us p q s text ok feeds amounts computes net_is state_is same leads segments says =
     let whole : q.network ≡ net = same ∙ net_is in
     record {
       finding = says.finding;
       found = found_of net value xs us q.state says.finding (subst IsNetwork whole ok) feeds amounts.not_negative segments computes
-          (subst (λ a. Leads net a us q.state) state_is (subst (λ n. Leads n p.state us q.state) net_is leads)) (subst (λ n. IsFoundFrom n q.state says.finding) whole says.found);
+          (subst (λ a. StepsGo net a us q.state) state_is (subst (λ n. StepsGo n p.state us q.state) net_is leads)) (subst (λ n. IsFoundFrom n q.state says.finding) whole says.found);
       status_is = says.status_is;
       text_is = says.text_is;
     }

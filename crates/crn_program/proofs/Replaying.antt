@@ -9,12 +9,12 @@ use Rattle.crn_segments.specs.Progress.{Progress}
 use Rattle.crn_segments.specs.Step.{step_refusal}
 use Rattle.crn_segments.specs.Steps.{AreSegments, StepsGo}
 use Rattle.crn_segments.specs.declared.StepError.{StepError}
-use Rattle.crn_program.specs.Answer.{Leads, IsRefused}
+use Rattle.crn_program.specs.Answer.{IsRefused}
 
 -- the first i of the segments were made to happen
 pub record Replayed (p : Progress) (us : List (List Flow)) (i : ℕ) (q : Progress) : Type 0 where
   pub network : q.network ≡ p.network
-  pub leads : Leads p.network p.state (take i us) q.state
+  pub leads : StepsGo p.network p.state (take i us) q.state
   pub segments : AreSegments (take i us)
 
 pub none_replayed : (p : Progress) (us : List (List Flow)) → Replayed p us 0 p
@@ -38,8 +38,8 @@ replayed_more p us i q r u within here so_far segment none next =
       segments = rw longer (segments_more (take i us) u so_far.segments segment);
     }
 
-pub all_replayed : (p : Progress) (us : List (List Flow)) (i : ℕ) (q : Progress) → length us ≤ i → Replayed p us i q → Leads p.network p.state us q.state × AreSegments us
-all_replayed p us i q past so_far = (subst (λ l. Leads p.network p.state l q.state) (take_all i us past) so_far.leads, subst AreSegments (take_all i us past) so_far.segments)
+pub all_replayed : (p : Progress) (us : List (List Flow)) (i : ℕ) (q : Progress) → length us ≤ i → Replayed p us i q → StepsGo p.network p.state us q.state × AreSegments us
+all_replayed p us i q past so_far = (subst (λ l. StepsGo p.network p.state l q.state) (take_all i us past) so_far.leads, subst AreSegments (take_all i us past) so_far.segments)
 
 pub first_refused : (p : Progress) (us : List (List Flow)) (i : ℕ) (q : Progress) (u : List Flow) (e : StepError) → i < length us → u ≡ get_or us i u → Replayed p us i q
     → step_refusal q.network q.state u ≡ Some e → IsRefused p.network p.state us (i + 1) e

@@ -31,10 +31,6 @@ text_limit = 1048576
 
 -- ---- `complete`, from a start with amounts xs on, by the given segments us
 
--- the given segments lead from a to c, each by a step
-abbrev pub Leads : Network → List ℚ → List (List Flow) → List ℚ → Type 0
-Leads net a us c = StepsGo net a us c
-
 -- from a on, segment t is the first that is refused, and so
 pub record IsRefused (net : Network) (a : List ℚ) (us : List (List Flow)) (t : ℕ) (e : StepError) : Type 0 where
   pub before : List (List Flow)
@@ -43,13 +39,13 @@ pub record IsRefused (net : Network) (a : List ℚ) (us : List (List Flow)) (t :
   pub state : List ℚ
   pub split : us ≡ before ++ segment ∷ rest
   pub place : t ≡ suc (length before)
-  pub leads : Leads net a before state
+  pub leads : StepsGo net a before state
   pub refused : step_refusal net state segment ≡ Some e
 
 -- The given segments are a run from the start to c. The completion is a run from there, and what the output is at its end, which no further run changes, is the
 -- value. Each reaction happens, in the given segments and in the completion, as much as in the completion from the start.
 pub record IsCompleted (net : Network) (value : ℚ) (xs : List ℚ) (us : List (List Flow)) (c : List ℚ) : Type 0 where
-  pub leads : Leads net (start net xs) us c
+  pub leads : StepsGo net (start net xs) us c
   pub run : Run net (start net xs) us c
   pub finishes : completion_refusal net c ≡ None
   pub fits : CompletionFits net c
@@ -62,8 +58,8 @@ pub record IsCompleted (net : Network) (value : ℚ) (xs : List ℚ) (us : List 
 -- what is found of a job with this network, this value, these amounts and segments
 abbrev pub IsFoundOf : Network → ℚ → List ℚ → List (List Flow) → Finding → Type 0
 IsFoundOf net value xs us (RefusedSegment t e) = IsRefused net (start net xs) us t e
-IsFoundOf net value xs us (Unfinished at) = (c : List ℚ) × Leads net (start net xs) us c × (completion_refusal net c ≡ Some at)
-IsFoundOf net value xs us NoValue = (c : List ℚ) × Leads net (start net xs) us c × (completion_refusal net c ≡ None) × (OutputFits net.output (completed net c) → ⊥)
+IsFoundOf net value xs us (Unfinished at) = (c : List ℚ) × StepsGo net (start net xs) us c × (completion_refusal net c ≡ Some at)
+IsFoundOf net value xs us NoValue = (c : List ℚ) × StepsGo net (start net xs) us c × (completion_refusal net c ≡ None) × (OutputFits net.output (completed net c) → ⊥)
 IsFoundOf net value xs us (Completed n c) = (n ≡ net) × IsCompleted net value xs us c
 IsFoundOf net value xs us _ = ⊥
 

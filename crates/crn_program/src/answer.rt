@@ -23,6 +23,7 @@ pub enum Command {
 /// Why there is no answer.
 #[derive(Clone, Copy, Debug, PartialEq, Eq)]
 pub enum Stop {
+    /// The source failed.
     ReadFault,
     Memory,
 }

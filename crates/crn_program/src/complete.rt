@@ -3,12 +3,12 @@ ghost use Rattle.crn_fraction.specs.Rational.{ℚ};
 ghost use Rattle.crn_formula.specs.Functions.{IsFitting, ByFormula};
 ghost use Rattle.crn_formula.specs.Views.{plain_of};
 ghost use Rattle.crn_net.specs.Network.{IsNetwork, AreAmounts, AreNotNegative, IsFeedForward, StablyComputes};
-ghost use Rattle.crn_segments.specs.Steps.{AreSegments};
+ghost use Rattle.crn_segments.specs.Steps.{AreSegments, StepsGo};
 ghost use Rattle.crn_dual.specs.Layout.{layout};
 ghost use Rattle.crn_function_text.specs.Reading.{function_of};
 ghost use Rattle.crn_job.specs.Grammar.{amount_count};
 ghost use Rattle.crn_job.specs.Reading.{job_of};
-ghost use Rattle.crn_program.specs.Answer.{Says, Leads, IsRefused, IsFoundOf, IsFoundInText, text_limit};
+ghost use Rattle.crn_program.specs.Answer.{Says, IsRefused, IsFoundOf, IsFoundInText, text_limit};
 ghost use Rattle.crn_program.specs.Ending.{IsFoundFrom, IsFoundInJobOf};
 ghost use Rattle.crn_program.specs.Finding.{word_of, step_words, status_of_step};
 ghost use Rattle.crn_program.specs.Report.{refusal};
@@ -99,7 +99,7 @@ fn network_of(alloc: Global, formula: &Formula, variables: usize) -> Result<Netw
     }
 }
 
-// The one error where the species are few.
+// Where the species are few, the compiler can only lack memory.
 fn want_of_memory(error: BuildError) -> AllocError
     requires { error ≡ BuildError.Memory }
 {
@@ -134,12 +134,13 @@ struct Refused {
 
 // Makes the segments happen, up to the first that is refused.
 fn replay_all(replay: &mut Replay<'_>, segments: &[Segment]) -> Result<(), Refused>
-    ensures ok { OnOk result (Leads replay.old.network replay.old.state segments.now replay.new.state) }
+    ensures ok { OnOk result (StepsGo replay.old.network replay.old.state segments.now replay.new.state) }
     ensures segments { OnOk result (AreSegments segments.now) }
     ensures err { IfErr result (λ refused. IsRefused replay.old.network replay.old.state segments.now refused.number refused.error) }
     ensures network { replay.new.network ≡ replay.old.network }
 {
     for (index, segment) in segments.iter().enumerate() {
+        // That the flows are a segment is told where they are read.
         let _flows = segment.flows();
         if let Err(error) = replay.step(segment) {
             return Err(Refused {

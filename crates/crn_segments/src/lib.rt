@@ -257,6 +257,7 @@ impl<'a> Replay<'a> {
         ensures valid { IsState self.now.network self.now.state }
     {
         let state = &self.state;
+        // That no amount is negative is told where the amounts are read.
         let _amounts = &state.amounts;
         state
     }
