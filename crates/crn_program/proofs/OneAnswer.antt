@@ -21,12 +21,14 @@ use Rattle.crn_job.specs.Grammar.{PlainJob, job_table}
 use Rattle.crn_job.proofs.JobLaws.{job_places_can_end}
 use Rattle.crn_program.specs.Report.{OutputFits}
 use Rattle.crn_program.specs.Value.{function_value}
-use Rattle.crn_program.specs.Finding.{Finding, NoCommand, LongText, WrongLine, PastLimit, OtherKind, RefusedSegment, Unfinished, NoValue, Completed, status_of, text_of}
-use Rattle.crn_program.specs.Answer.{Answers, IsFound, IsFoundBy, IsFoundInText, IsFoundInJob, IsFoundOf, IsRefused, IsJobAnswer, IsOtherKind, text_limit}
+use Rattle.crn_program.specs.Finding.{Finding, NoCommand, LongText, WrongLine, PastLimit, OtherKind, RefusedSegment, Unfinished, NoValue, Completed, status_of, status_of_step, text_of}
+use Rattle.crn_program.specs.Answer.{Answers, IsFound, IsFoundBy, IsFoundInText, IsFoundInJob, IsFoundOf, IsRefused, IsFormulaJob, IsJobAnswer, IsOtherKind, text_limit}
+use Rattle.crn_program.specs.Statuses.{IsOfFormula}
 use Rattle.crn_program.specs.Words.{IsRow, IsNoRow}
 use Rattle.crn_program.specs.declared.answer.Command.{Command}
 use Rattle.crn_program.specs.declared.answer.Command.TheVariants.{Complete}
 use Rattle.crn_program.specs.declared.status.Status.{Status}
+use Rattle.crn_segments.specs.declared.StepError.TheVariants as step
 
 -- ---- where the given segments lead
 
@@ -232,3 +234,44 @@ pub one_answer : (words : List (List ℕ)) (bytes : List ℕ) (s t : Status) (te
 one_answer words bytes s t text other first second =
     let same = one_found words bytes first.finding second.finding first.found second.found in
     (first.status_is ∙ ap status_of same ∙ sym second.status_is, first.text_is ∙ ap text_of same ∙ sym second.text_is)
+
+-- ---- jobs of formulas
+
+refusal_of_formula : (e : StepError) → IsOfFormula (status_of_step e)
+refusal_of_formula (step.NoReaction r) = inr (inl refl)
+refusal_of_formula (step.NotPresent r s) = inr (inl refl)
+refusal_of_formula (step.TooBig s) = inr (inr refl)
+refusal_of_formula (step.TakesMore s) = inr (inl refl)
+
+finding_of_formula : (net : Network) (value : ℚ) (xs : List ℚ) (us : List (List Flow)) (f : Finding) → IsFoundOf net value xs us f → IsOfFormula (status_of f)
+finding_of_formula net value xs us NoCommand found = absurd found
+finding_of_formula net value xs us LongText found = absurd found
+finding_of_formula net value xs us (WrongLine n) found = absurd found
+finding_of_formula net value xs us (PastLimit what count) found = absurd found
+finding_of_formula net value xs us OtherKind found = absurd found
+finding_of_formula net value xs us (RefusedSegment t e) found = refusal_of_formula e
+finding_of_formula net value xs us (Unfinished at) found = inr (inr refl)
+finding_of_formula net value xs us NoValue found = inr (inr refl)
+finding_of_formula net value xs us (Completed n c) found = inl refl
+
+formula_in_text : (bytes : List ℕ) (k : ℕ) (e : Formula) (xs : List ℚ) (us : List (List Flow)) (f : Finding) → length bytes ≤ text_limit → IsFormulaJob bytes k e xs us → IsFoundInText bytes f → IsOfFormula (status_of f)
+formula_in_text bytes k e xs us f short job found =
+    let plain : PlainJob = record { function = record { variables = k; kind = ByFormula e }; amounts = xs; segments = us } in
+    ⊎_elim
+    (λ long. absurd (omega (arith, long.1, short)))
+    (λ read. ⊎_elim
+    (λ other. absurd other.0)
+    (λ formula. finding_of_formula (layout k formula.0) _ xs us f formula.2)
+    (subst (λ a. InAnswer a f) (same_answer bytes read.1 (grammar.Read plain) read.2 job.read) read.3))
+    (text_case bytes f found)
+
+pub job_of_formula : (words : List (List ℕ)) (bytes : List ℕ) (k : ℕ) (e : Formula) (xs : List ℚ) (us : List (List Flow)) (s : Status) (text : List ℕ) → IsRow Complete words → length bytes ≤ text_limit
+    → IsFormulaJob bytes k e xs us → Answers words bytes s text → IsOfFormula s
+job_of_formula words bytes k e xs us s text row short job answer =
+    subst IsOfFormula (sym answer.status_is) (⊎_elim
+    (λ none. absurd (none.1 Complete row))
+    (λ found. by found.0 found.2)
+    (words_case words bytes answer.finding answer.found))
+  where
+    by : (command : Command) → IsFoundBy command bytes answer.finding → IsOfFormula (status_of answer.finding)
+    by Complete found = formula_in_text bytes k e xs us answer.finding short job found
