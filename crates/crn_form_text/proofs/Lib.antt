@@ -14,3 +14,5 @@ pub mod Meanings
 pub mod Numbers
 pub mod PrintLaws
 pub mod ItemLaws
+pub mod WrittenLaws
+pub mod PlainPrinted

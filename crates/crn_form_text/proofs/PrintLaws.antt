@@ -16,7 +16,7 @@ use Rattle.crn_form_text.specs.Grammar.{numeral_tokens, signed, fraction, term_t
 use Rattle.crn_form_text.specs.Printing.{numeral_of, is_negative, is_below, has_size_1, variable_term, variable_terms, constant_terms, or_zero, printed_terms, closed_up, spaced_sign, more_items, terms_items, form_items, fraction_items, call_items, formula_items, with_constant, with_constants, HasColumnsFor}
 
 -- ---- tokens
-shown_append : (xs ys : List Item) → shown (xs ++ ys) ≡ shown xs ++ shown ys
+pub shown_append : (xs ys : List Item) → shown (xs ++ ys) ≡ shown xs ++ shown ys
 shown_append [] ys = refl
 shown_append (Blank ∷ xs) ys = shown_append xs ys
 shown_append (Shown t ∷ xs) ys = ap (λ l. t ∷ l) (shown_append xs ys)
@@ -35,7 +35,7 @@ shown_more (t ∷ terms) =
     shown_append (spaced_sign t.negative ++ closed_up (term_tokens t.term)) (more_items terms)
     ∙ ap₂ (λ a b. a ++ b) (shown_append (spaced_sign t.negative) (closed_up (term_tokens t.term)) ∙ ap₂ (λ a b. a ++ b) (shown_sign t.negative) (shown_closed (term_tokens t.term))) (shown_more terms)
 
-shown_terms : (terms : List Signed) → shown (terms_items terms) ≡ form_tokens terms
+pub shown_terms : (terms : List Signed) → shown (terms_items terms) ≡ form_tokens terms
 shown_terms [] = refl
 shown_terms (t ∷ terms) =
     shown_append (closed_up (minus_before t.negative) ++ closed_up (term_tokens t.term)) (more_items terms)

@@ -3,3 +3,4 @@ pub mod Reading
 pub mod Built
 pub mod Shown
 pub mod Printing
+pub mod Written

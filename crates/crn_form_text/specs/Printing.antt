@@ -113,6 +113,10 @@ abbrev pub AreFracs : List ℚ → Type 0
 AreFracs [] = Unit {0}
 AreFracs (q ∷ qs) = IsFrac q × AreFracs qs
 
+-- the numbers of a form over k variables are fractions that fit
+abbrev pub AreFracsOf : ℕ → List ℚ → Type 0
+AreFracsOf k form = AreFracs (take k form) × IsFrac (entry_of form k)
+
 -- at most 8 variables, and each number is a fraction that fits
 abbrev pub FitsText : ℕ → Formula → Type 0
 FitsText k (Lin form) = (length (take k form) ≤ 8) × AreFracs (take k form) × IsFrac (entry_of form k)

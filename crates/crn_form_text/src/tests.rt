@@ -1,4 +1,5 @@
 use super::*;
+use crn_formula::Formula;
 use crn_fraction::Frac;
 use crn_linear::Form;
 use crn_token::{Line, Lines, token_lines};
@@ -177,5 +178,38 @@ fn great_depths(rt: HostRuntime) -> Result<(), Fail> {
         let text = scaled(rt.alloc(), opened, closed)?;
         assert_eq!(rt; answer(rt.alloc(), text.as_str())?, want, "{opened}");
     }
+    Ok(())
+}
+
+#[test]
+fn prints(rt: HostRuntime) -> Result<(), Fail> {
+    let mut out = String::new(rt.alloc());
+    print_fraction(&mut out, ratio(-4, 6))?;
+    out.push(' ')?;
+    print_fraction(&mut out, ratio(3, 1))?;
+    assert_eq!(rt; out.as_str(), "-2/3 3");
+    for (x1, x2, constant, wanted) in [
+        ((1, 1), (0, 1), (0, 1), "x1"),
+        ((-1, 1), (1, 2), (-1, 1), "-x1 + 1/2x2 - 1"),
+        ((0, 1), (-3, 2), (1, 1), "-3/2x2 + 1"),
+        ((0, 1), (0, 1), (-1, 4), "-1/4"),
+        ((0, 1), (0, 1), (0, 1), "0"),
+    ] {
+        let form = Form::of(&[
+            ratio(x1.0, x1.1),
+            ratio(x2.0, x2.1),
+            ratio(constant.0, constant.1),
+        ]);
+        let mut out = String::new(rt.alloc());
+        print_form(&mut out, &form, 2)?;
+        assert_eq!(rt; out.as_str(), wanted);
+    }
+    let mut out = String::new(rt.alloc());
+    let x1 = Formula::Lin(Form::of(&[ratio(1, 1)]));
+    let twice = Formula::Scale(ratio(2, 1), Box::new(rt.alloc(), x1)?);
+    let five = Formula::Lin(Form::of(&[ratio(0, 1), ratio(5, 1)]));
+    let formula = Formula::Sub(Box::new(rt.alloc(), twice)?, Box::new(rt.alloc(), five)?);
+    print_formula(&mut out, &formula, 1)?;
+    assert_eq!(rt; out.as_str(), "sub(scale(2, x1), 5)");
     Ok(())
 }

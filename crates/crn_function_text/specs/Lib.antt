@@ -3,3 +3,4 @@ pub mod Columns
 pub mod Spelled
 pub mod Grammar
 pub mod Reading
+pub mod Printing

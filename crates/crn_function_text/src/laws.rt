@@ -1,12 +1,15 @@
 //! What holds of function text. Each function here does nothing: its contract is a theorem about the definitions of `specs/`.
 ghost use Rattle.std.specs.Prelude.{ℕ, List, Some, None, ◌≡◌, ◌≤◌, ◌↔◌};
 ghost use Rattle.crn_fraction.specs.Rational.{ℚ};
-ghost use Rattle.crn_token.specs.Plain.{Plain};
-ghost use Rattle.crn_grammar.specs.Table.{CanEnd};
+ghost use Rattle.crn_token.specs.Plain.{Plain, plain_lines};
+ghost use Rattle.crn_token.specs.Printed.{lines_read};
+ghost use Rattle.crn_grammar.specs.Table.{CanEnd, IsText, PassesNone};
 ghost use Rattle.crn_formula.specs.Formulas.{Formula, node_count, depth_of};
+ghost use Rattle.crn_formula.specs.Functions.{IsFitting};
 ghost use Rattle.crn_form_text.specs.Grammar.{SpellsForm, SpellsPlain, SpellsFormula};
 ghost use Rattle.crn_form_text.specs.Reading.{form_of};
-ghost use Rattle.crn_function_text.specs.Grammar.{function_table, plain_form_of};
+ghost use Rattle.crn_function_text.specs.Grammar.{PlainFunction, function_table, plain_form_of};
+ghost use Rattle.crn_function_text.specs.Printing.{function_lines, function_text, AreKindFracs};
 ghost use Rattle.crn_function_text.specs.Spelled.{formula_of};
 
 /// What the lines of the grammar take for a form or a formula is what the tokens spell, and there is none exactly where they spell none.
@@ -23,4 +26,11 @@ pub fn lines_say_what_tokens_spell()
 /// Wherever lines lead that begin a text, some lines more end one. So the answer line by line is the right one.
 pub fn places_can_end()
     ensures { CanEnd function_table }
+{}
+
+/// The printed lines of a function are a text of it and pass no limit, and the bytes read as these lines.
+pub fn printed_reads_back()
+    ensures text { (f : PlainFunction) → IsFitting f.variables f.kind → IsText function_table (lines_read 1 (function_lines f)) f }
+    ensures limits { (f : PlainFunction) → IsFitting f.variables f.kind → PassesNone function_table (lines_read 1 (function_lines f)) }
+    ensures bytes { (f : PlainFunction) → IsFitting f.variables f.kind → AreKindFracs f.variables f.kind → plain_lines (function_text f) ≡ lines_read 1 (function_lines f) }
 {}

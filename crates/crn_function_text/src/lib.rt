@@ -23,7 +23,10 @@ use words::{first_word, tokens_of};
 mod columns;
 pub mod laws;
 mod place;
+mod print;
 mod words;
+
+pub use print::print_function;
 
 /// Why a text has no function that can be answered. Of several causes the one of the earliest line counts, and a malformed line
 /// before a limit.

@@ -302,3 +302,45 @@ fn a_part_ends_before_other_words(rt: HostRuntime) -> Result<(), Fail> {
     assert!(rt; matches!(function.kind(), FunctionKind::Direct(_)));
     Ok(())
 }
+
+// The printed text of the function of a text.
+fn reprinted(alloc: Global, text: &[u8]) -> Result<Vec<u8>, FunctionTextError> {
+    let function = read_function(alloc, text)?;
+    Ok(print_function(alloc, &function)?)
+}
+
+#[test]
+fn prints(rt: HostRuntime) -> Result<(), Fail> {
+    for (text, wanted) in [
+        (
+            b"function formula\nvariables 2\nvalue scale(4/6, x2 - 0x1)\n".as_slice(),
+            b"function formula\nvariables 2\nvalue scale(2/3, x2)\n".as_slice(),
+        ),
+        (
+            b"function formula\nvariables 1\nvalue max(3 + x1, 0)".as_slice(),
+            b"function formula\nvariables 1\nvalue max(x1 + 3, 0)\n".as_slice(),
+        ),
+        (
+            b"function formula\nvariables 1\nvalue x1 + 0\n".as_slice(),
+            b"function formula\nvariables 1\nvalue x1\n".as_slice(),
+        ),
+        (
+            b"function formula\nvariables 3\nvalue sub(scale(-3/6,-x3-2/4x1),min(1-x2, 0x1))\n".as_slice(),
+            b"function formula\nvariables 3\nvalue sub(scale(-1/2, -1/2x1 - x3), min(-x2 + 1, 0))\n".as_slice(),
+        ),
+        (
+            b"# two pieces\nfunction pieces\nvariables 2\npiece x1-1\nwhen x1-x2>=0\nwhen 2x2>=0\n\npiece x2\n".as_slice(),
+            b"function pieces\nvariables 2\npiece x1 - 1\nwhen x1 - x2 >= 0\nwhen 2x2 >= 0\npiece x2\n".as_slice(),
+        ),
+        (
+            b"function direct\nvariables 2\nform x2+3/9x1\nform 0\n".as_slice(),
+            b"function direct\nvariables 2\nform 1/3x1 + x2\nform 0\n".as_slice(),
+        ),
+    ] {
+        let printed = reprinted(rt.alloc(), text)?;
+        assert_eq!(rt; printed.as_slice(), wanted);
+        let again = reprinted(rt.alloc(), printed.as_slice())?;
+        assert_eq!(rt; again.as_slice(), wanted);
+    }
+    Ok(())
+}
