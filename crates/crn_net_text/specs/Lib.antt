@@ -1,0 +1,3 @@
+pub mod NetworkText
+pub mod Grammar
+pub mod Reading

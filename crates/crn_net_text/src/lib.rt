@@ -1,0 +1,136 @@
+//! The text of a network: printed and read.
+#![tactic(auto)]
+
+ghost use Rattle.std.specs.Prelude.{◌≡◌, ◌≤◌, List, drop, vec_len, IfOk};
+ghost use Rattle.crn_token.specs.Lines.{AreLinesOf};
+ghost use Rattle.crn_token.specs.Plain.{PlainLine, plain_lines};
+ghost use Rattle.crn_grammar.specs.Table.{IsText, PassesNone, IsAnswer};
+ghost use Rattle.crn_grammar.specs.Table as table;
+ghost use Rattle.crn_grammar.specs.Part.{part_end};
+ghost use Rattle.crn_net.specs.Network as plain;
+ghost use Rattle.crn_function_text.specs.Grammar.{line_number, end_of};
+ghost use Rattle.crn_net_text.specs.Grammar.{network_table, network_answer, network_part};
+ghost use Rattle.crn_net_text.specs.Reading.{place_of, Gives, GivesPart, IsRight, IsKept};
+
+use crn_net::Network;
+use crn_token::{Counted, Lines, token_lines};
+use place::Place;
+use std::alloc::{AllocError, AllocFailed, Global};
+use thiserror::Error;
+use words::tokens_of;
+
+pub mod laws;
+mod place;
+mod print;
+mod side;
+mod words;
+
+pub use print::print_network;
+
+/// Why a text has no network that can be answered. Of several causes the one of the earliest line counts, and a malformed line before
+/// a limit.
+#[derive(Clone, Copy, Debug, PartialEq, Eq, Error)]
+pub enum NetTextError {
+    /// The first line up to which the lines begin no text, or the line past the last where the text is too short.
+    #[error("line {line} is malformed")]
+    Malformed { line: usize },
+    /// The first line that passes a limit.
+    #[error("limit {what:?} {count}")]
+    Limit { what: Counted, count: u64 },
+    #[error("out of memory")]
+    Memory,
+}
+
+impl From<AllocError> for NetTextError {
+    ghost use Rattle.crn_net_text.specs.declared.NetTextError.TheVariants.{Memory};
+
+    ghost from_gives = { λ _ e. e ≡ Memory };
+
+    fn from(_e: AllocError) -> NetTextError {
+        NetTextError::Memory
+    }
+}
+
+impl<T: Drop> From<AllocFailed<T>> for NetTextError {
+    ghost use Rattle.crn_net_text.specs.declared.NetTextError.TheVariants.{Memory};
+
+    ghost from_gives = { λ _ e. e ≡ Memory };
+
+    fn from(_e: AllocFailed<T>) -> NetTextError {
+        NetTextError::Memory
+    }
+}
+
+/// The network part that begins the lines, and the index of the first line after it: the part ends with the last reaction that its
+/// line of reactions counts.
+pub fn read_network_lines(
+    alloc: Global,
+    bytes: &[u8],
+    lines: &Lines,
+) -> Result<(Network, usize), NetTextError>
+    requires lines { AreLinesOf bytes.now lines.now }
+    ensures answer { GivesPart (plain_lines bytes.now) result (network_part bytes.now) }
+    ensures next { IfOk result (λ r. r.1 ≤ vec_len lines.now.lines) }
+{
+    let mut place = Place::Start;
+    for index in 0..lines.lines.len() {
+        let line = &lines.lines[index];
+        if place.is_whole() {
+            return part_up_to(alloc, place, line.number, index);
+        }
+        match place.after(alloc, bytes, line.number, tokens_of(line)) {
+            Ok(next) => place = next,
+            Err(error) => return Err(error),
+        }
+    }
+    part_up_to(alloc, place, lines.count + 1, lines.lines.len())
+}
+
+// The network of a part that ends before the line with this number, which has this index.
+fn part_up_to(
+    alloc: Global,
+    place: Place,
+    number: usize,
+    index: usize,
+) -> Result<(Network, usize), NetTextError>
+    requires { IsKept (place_of place) }
+    ensures answer { (lines : List PlainLine) → GivesPart lines result (part_end network_table number (place_of place) (drop index lines)) }
+    ensures next { IfOk result (λ r. r.1 ≡ index) }
+{
+    match place.network(alloc, number) {
+        Ok(network) => Ok((network, index)),
+        Err(error) => Err(error),
+    }
+}
+
+/// The network of a text.
+pub fn read_network(alloc: Global, bytes: &[u8]) -> Result<Network, NetTextError>
+    // Each answer is the right one: the network of the text, the malformed line, or the first limit that is passed.
+    ensures answer { IsRight result (IsAnswer network_table line_number (end_of bytes.now) (plain_lines bytes.now)) }
+    // A text that passes no limit is read.
+    ensures read { (net : plain.Network) → IsText network_table (plain_lines bytes.now) net → PassesNone network_table (plain_lines bytes.now)
+        → Gives (λ n. n) result (table.Read net) }
+{
+    read_text(alloc, bytes)
+}
+
+// The network of a text, line by line.
+fn read_text(alloc: Global, bytes: &[u8]) -> Result<Network, NetTextError>
+    ensures { Gives (λ n. n) result (network_answer bytes.now) }
+{
+    let lines = token_lines(alloc, bytes)?;
+    match read_network_lines(alloc, bytes, &lines) {
+        Ok((network, next)) => {
+            if next < lines.lines.len() {
+                let line = lines.lines[next].number;
+                Err(NetTextError::Malformed { line })
+            } else {
+                Ok(network)
+            }
+        }
+        Err(error) => Err(error),
+    }
+}
+
+#[cfg(test)]
+mod tests;
