@@ -1,3 +1,5 @@
+//! The compiler: leaves from left to right, then the gates of the nodes in postorder.
+
 ghost use Rattle.std.specs.Prelude.{◌≡◌, ◌+◌, ◌<◌, ◌≤◌, ◌++◌, length, drop, IfOk, OnOk, IsErr, IsErrOf};
 ghost use Rattle.std.specs.Vec.Iter.{into_iter_items};
 ghost use Rattle.crn_net.specs.Network.{IsFeedForward};

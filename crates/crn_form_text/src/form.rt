@@ -1,3 +1,5 @@
+//! Forms in text, term by term.
+
 ghost use Rattle.std.specs.Prelude.{ℕ, List, Some, None, ◌≡◌, ◌↔◌, IsTrue, ◌+◌, ◌^◌, ◌<◌, ◌≤◌, map, take, drop, length, if◌then◌else◌, IfSome, IfNone, vec_len, unwrap_or, slice_index_or};
 ghost use Rattle.std.specs.Option.{option_map};
 ghost use Rattle.crn_token.specs.Plain.{plain_token};

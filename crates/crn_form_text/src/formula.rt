@@ -1,3 +1,5 @@
+//! Formulas in text: their nodes and depth are counted without recursion, before a tree is built.
+
 ghost use Rattle.std.specs.Prelude.{ℕ, List, Bool, Some, None, ◌≡◌, ◌+◌, ◌<◌, ◌≤◌, ◌^◌, map, reverse, length, if◌then◌else◌, IfOk, OnOk, IfSome, IfNone, vec_len};
 ghost use Rattle.std.specs.Option.{option_map, option_and_then};
 ghost use Rattle.crn_token.specs.Plain.{plain_token};

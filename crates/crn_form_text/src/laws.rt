@@ -1,3 +1,5 @@
+//! What holds of numbers, forms and formulas in text. Each function here does nothing: its contract is a theorem about the definitions of `specs/`.
+
 ghost use Rattle.std.specs.Prelude.{ℕ, ℤ, List, ◌≡◌, ◌≤◌, ◌++◌, length, take, All, IsTrue};
 ghost use Rattle.crn_token.specs.Plain.{Plain, PlainNumber};
 ghost use Rattle.crn_fraction.specs.Rational.{ℚ, 0ℚ, ◌≤ℚ◌};

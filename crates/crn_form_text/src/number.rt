@@ -1,3 +1,5 @@
+//! Numbers and fractions in text.
+
 ghost use Rattle.std.specs.Prelude.{ℕ, suc, List, [], ◌≡◌, ◌<◌, ◌^◌, ◌≤ℤ◌, ◌<ℤ◌, pos, map, unsigned_abs, IfSome, IfNone};
 ghost use Rattle.std.specs.Option.{option_map};
 ghost use Rattle.crn_token.specs.Plain.{plain_token};

@@ -1,3 +1,5 @@
+//! Fractions, forms and formulas, printed.
+
 ghost use Rattle.std.specs.Prelude.{◌≡◌, ◌≤◌, ◌++◌, ◌&&◌, take, string_bytes, IfOk, OnOk};
 ghost use Rattle.crn_token.specs.Printed.{spelled};
 ghost use Rattle.crn_fraction.specs.Rational.{is_zero_ℚ};

@@ -1,3 +1,5 @@
+//! The domain of a function: rows, and a point that meets each strictly.
+
 ghost use Rattle.std.specs.Prelude.{◌≡◌, ◌<◌, ◌≤◌, length};
 ghost use Rattle.crn_linear.specs.Strengths.{row_with};
 ghost use Rattle.crn_formula.specs.Pieces.{IsDomain};

@@ -1,3 +1,5 @@
+//! Formulas: trees of forms, sums, differences, multiples, least and greatest.
+
 ghost use Rattle.std.specs.Prelude.{◌≡◌, ◌↔◌, ◌+◌, length, min, IsTrue};
 ghost use Rattle.std.specs.List.{list_any};
 ghost use Rattle.std.specs.Result.{OkIff};

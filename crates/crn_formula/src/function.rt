@@ -1,3 +1,5 @@
+//! Functions of each kind, and when their parts make one.
+
 ghost use Rattle.std.specs.Prelude.{◌≡◌, ◌↔◌, ◌<◌, ◌≤◌, ◌+◌, ◌++◌, ◌∷◌, [], pos, length, take, sum_by, false, IsTrue, All};
 ghost use Rattle.std.specs.List.{fold};
 ghost use Rattle.std.specs.Result.{OkIff};

@@ -1,3 +1,5 @@
+//! Pieces: a form, and the conditions under which it holds.
+
 ghost use Rattle.std.specs.Prelude.{◌≡◌, ◌↔◌, length, All, IsTrue};
 ghost use Rattle.std.specs.List.{list_any};
 ghost use Rattle.std.specs.Result.{OkIff};

@@ -1,3 +1,5 @@
+//! Whether pieces have a constant, and forms without the column for it.
+
 ghost use Rattle.std.specs.Prelude.{◌≡◌, ◌+◌, ◌≤◌, map, length, take, vec_len, All};
 ghost use Rattle.std.specs.List.{list_any};
 ghost use Rattle.crn_formula.specs.Formulas.{has_constant};

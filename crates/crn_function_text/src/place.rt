@@ -1,3 +1,5 @@
+//! Where a text of a function stands, and what each line does to it.
+
 ghost use Rattle.std.specs.Prelude.{ℕ, Some, ◌≡◌, ◌+◌, ◌≤◌, ◌++◌, ◌∷◌, [], map, length, IfOk};
 ghost use Rattle.std.specs.List.{sum_by};
 ghost use Rattle.std.specs.Option.{option_map, option_map_or};

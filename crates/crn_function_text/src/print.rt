@@ -1,3 +1,5 @@
+//! Functions, printed line by line.
+
 ghost use Rattle.std.specs.Prelude.{◌≡◌, ◌≤◌, ◌++◌, ◌∷◌, [], map, string_bytes, All, IfOk, OnOk};
 ghost use Rattle.std.specs.List.{flat_map};
 ghost use Rattle.crn_token.specs.Plain.{plain_lines};

@@ -1,3 +1,5 @@
+//! The input and segment lines after a function part.
+
 ghost use Rattle.std.specs.Prelude.{ℕ, List, [], ◌∷◌, ◌+◌, Some, None, ◌≡◌, ◌<◌, ◌≤◌, ◌-◌, map, length, drop, IfOk, IfSome};
 ghost use Rattle.std.specs.Option.{option_map, option_map_or};
 ghost use Rattle.crn_grammar.specs.Table as table;

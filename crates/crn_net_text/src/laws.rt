@@ -1,3 +1,5 @@
+//! What holds of network text. Each function here does nothing: its contract is a theorem about the definitions of `specs/`.
+
 ghost use Rattle.std.specs.Prelude.{List, ◌<◌, length};
 ghost use Rattle.crn_token.specs.Plain.{PlainLine, plain_lines};
 ghost use Rattle.crn_token.specs.Printed.{AreLines};

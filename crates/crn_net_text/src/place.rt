@@ -1,3 +1,5 @@
+//! Where a text of a network stands, and what each line does to it.
+
 ghost use Rattle.std.specs.Prelude.{ℕ, List, Some, None, true, false, not, ◌≡◌, ◌+◌, ◌<◌, ◌≤◌, ◌++◌, ◌∷◌, [], map, length};
 ghost use Rattle.std.specs.Option.{option_map, option_map_or, option_and_then};
 ghost use Rattle.crn_token.specs.Plain.{plain_token};

@@ -1,3 +1,5 @@
+//! Networks, printed line by line.
+
 ghost use Rattle.std.specs.Prelude.{◌≡◌, ◌++◌, ◌∷◌, [], pos, ◌<ℤ◌, length, map, string_bytes, IfOk, OnOk, All};
 ghost use Rattle.crn_net.specs.Network.{AreParts};
 ghost use Rattle.crn_net.specs.Views.{part_of, parts_of, reaction_of, reactions_of};

@@ -1,3 +1,5 @@
+//! The species, parts, sides and reactions of a line.
+
 ghost use Rattle.std.specs.Prelude.{ℕ, List, ◌≡◌, ◌+◌, ◌≤◌, ◌<◌, map, length, drop, IfOk, IfSome, if◌then◌else◌};
 ghost use Rattle.std.specs.Option.{option_map, option_and_then};
 ghost use Rattle.crn_token.specs.Plain.{plain_token};

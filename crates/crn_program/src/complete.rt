@@ -1,3 +1,5 @@
+//! The command `complete`: a job is read, its segments are replayed, and the completion is printed.
+
 ghost use Rattle.std.specs.Prelude.{◌≡◌, ◌≤◌, length, string_bytes, map, IfOk, OnOk, IfErr};
 ghost use Rattle.crn_fraction.specs.Rational.{ℚ};
 ghost use Rattle.crn_formula.specs.Functions.{IsFitting, ByFormula};

@@ -1,3 +1,5 @@
+//! The completion report and the lines of refusals.
+
 ghost use Rattle.std.specs.Prelude.{◌≡◌, [], ◌∷◌, ◌++◌, codes, length, string_bytes, IfOk, OnOk, IfSome, MatchOption, MatchResult};
 ghost use Rattle.std.specs.List.{flat_map};
 ghost use Rattle.crn_net.specs.Network.{IsNetwork, amount, value_at};

@@ -1,3 +1,5 @@
+//! The state in which a job starts.
+
 ghost use Rattle.std.specs.Prelude.{◌≡◌, ◌≤◌, ◌+◌, length, drop, IfOk};
 ghost use Rattle.crn_net.specs.Network.{AreAmounts, AreNotNegative, start};
 ghost use Rattle.crn_net.specs.Inputs.{species_of};

@@ -1,3 +1,5 @@
+//! What holds of token lines. Each function here does nothing: its contract is a theorem about the definitions of `specs/`.
+
 ghost use Rattle.std.specs.Prelude.{ℕ, List, Some, ◌≡◌, ◌≢◌, ◌+◌, ◌<◌, ◌≤◌, ◌++◌, ◌∷◌, [], length, take, IsTrue};
 ghost use Rattle.crn_token.specs.Blanks.{IsBlank, HasNo};
 ghost use Rattle.crn_token.specs.Lines.{physical_lines, joined};
