@@ -1,5 +1,5 @@
 -- When a count of faults rose.
-use Rattle.std.specs.Prelude.{ℕ, ◌+◌, ◌-◌, ◌^◌, ◌≤◌, min, OnErr}
+use Rattle.std.specs.Prelude.{◌≡◌, ℕ, ◌+◌, ◌-◌, ◌^◌, ◌≤◌, min, OnOk, OnErr}
 use Rattle.std.specs.declared.result.Result.{Result}
 
 -- one more than n, as a count that stays at the greatest u64
@@ -14,7 +14,8 @@ next_call n = raised n
 abbrev pub Rose : ℕ → ℕ → Type 0
 Rose before now = raised before ≤ now
 
--- the count doesn't fall, and where the call failed it rose
+-- the count doesn't fall; it rose where the call failed, and is as it was where the call did not
 pub record HasCause {T E : Type 0} (before now : ℕ) (result : Result T E) : Type 0 where
   pub later : before ≤ now
+  pub served : OnOk result (now ≡ before)
   pub failed : OnErr result (Rose before now)

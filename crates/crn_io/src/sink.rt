@@ -1,3 +1,5 @@
+//! Sinks: in memory, one that only counts, one over a writer of the system, and how all of some bytes are written.
+
 ghost use Rattle.std.specs.Prelude.{ℕ, List, Option, Some, None, [], ◌≡◌, ◌+◌, ◌-◌, ◌^◌, ◌<◌, ◌≤◌, ◌↔◌, ◌⊎◌, length, vec_len, vec_capacity, IfOk, IsOkAnd, OnOk, OnErr, min, take};
 ghost use Rattle.std.specs.Io.KnownBytes.{WriteAppends, Appends};
 ghost use Rattle.crn_io.specs.Causes.{HasCause, raised};
@@ -9,7 +11,7 @@ use std::alloc::{AllocError, Global};
 use std::io::Write;
 use std::marker::Model;
 
-/// Where bytes go. A sink counts its faults, in a count that stays at the greatest `u64`.
+/// Where bytes go. A sink counts its faults, and nothing else, in a count that stays at the greatest `u64`.
 pub trait Sink {
     /// The bytes written, where the sink tells them.
     ghost written: { Self → Option (List ℕ) };

@@ -1,3 +1,5 @@
+//! Sources: in memory, and one over a reader of the system, and how all of the bytes are read.
+
 ghost use Rattle.std.specs.Prelude.{ℕ, List, Option, Some, None, ◌≡◌, ◌+◌, ◌-◌, ◌^◌, ◌<◌, ◌≤◌, ◌↔◌, length, vec_len, IfOk, IsOkAnd, OnOk, OnErr, IsErrOf, min, take};
 ghost use Rattle.std.specs.Io.{ReadsAtMost};
 ghost use Rattle.std.specs.Io.KnownBytes.{ReadConsumes, Consumes, IsAtEnd};
@@ -15,7 +17,7 @@ use thiserror::Error;
 #[error("the call failed")]
 pub struct Failed;
 
-/// Where bytes come from. A source counts its faults, in a count that stays at the greatest `u64`.
+/// Where bytes come from. A source counts its faults, and nothing else, in a count that stays at the greatest `u64`.
 pub trait Source {
     /// The bytes that are left, where the source tells them.
     ghost left: { Self → Option (List ℕ) };
@@ -248,6 +250,7 @@ pub fn read_all<S: Source>(
     ensures fault_within { IsErrOf result ReadAllError.Fault → ConsumesSome (S.left source.old) (S.left source.new) (λ n. n ≤ limit) }
     ensures memory { IsErrOf result ReadAllError.Memory → ConsumesSome (S.left source.old) (S.left source.new) (λ n. n ≤ limit) }
     ensures later { S.faults source.old ≤ S.faults source.new }
+    ensures no_fault { ¬ IsErrOf result ReadAllError.Fault → S.faults source.new ≡ S.faults source.old }
 {
     let mut bytes = Vec::new(alloc);
     let mut block = [0u8; BLOCK];
