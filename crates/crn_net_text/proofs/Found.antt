@@ -37,7 +37,7 @@ both true y is = (refl, is)
 both false y is = let wrong : false ≡ true = is in cc
 
 -- ---- parts and sides
-within_found : (low n m a : ℕ) → within low n m ≡ Some a → (low < a) × (a ≤ n) × (m ≡ a)
+pub within_found : (low n m a : ℕ) → within low n m ≡ Some a → (low < a) × (a ≤ n) × (m ≡ a)
 within_found low n m a is =
     let (test, same) = if_found (nat_lt low m && nat_le m n) (Some m) a is in
     let m_is : m ≡ a = some_same m a same in
@@ -74,11 +74,11 @@ part_found low n ts p k is = part_found_by low n ts (number_at ts) p k is
 abbrev IsSide : ℕ → ℕ → List Part → Type 0
 IsSide low n ps = (0 < length ps) × AreParts low n ps
 
-abbrev next_side : ℕ → ℕ → List Plain → Part × ℕ → Option (List Part × ℕ)
+abbrev pub next_side : ℕ → ℕ → List Plain → Part × ℕ → Option (List Part × ℕ)
 next_side k n ts p = cond (is_plus (drop p.1 ts)) (option_map (λ q. (p.0 ∷ q.0, p.1 + 1 + q.1)) (side_at k p.0.species n (drop (p.1 + 1) ts))) (Some (p.0 ∷ [], p.1))
 
 pub side_found : (k low n : ℕ) (ts : List Plain) (ps : List Part) (m : ℕ) → side_at k low n ts ≡ Some (ps, m) → IsSide low n ps
-side_found zero low n ts ps m is = let wrong : None ≡ Some (ps, m) = is in cc
+side_found zero low n ts ps m is = let wrong : ◌≡◌ {A = Option (List Part × ℕ)} None (Some (ps, m)) = is in cc
 side_found (suc k) low n ts ps m is =
     let (p, here, rest) = then_found (next_side k n ts) (part_at low n ts) (ps, m) is in
     go (λ low us qs j there. side_found k low n us qs j there) p (part_found low n ts p.0 p.1 here) (is_plus (drop p.1 ts)) rest

@@ -156,7 +156,7 @@ after_count net ts t framed none is =
     subst (Leads (Closed net)) same (framed, λ low few. (low, not_passed 65536 counted.Reactions (length net.reactions + m) few))
 
 -- one reaction more
-each_later : (P : Reaction → Type 0) (x : Reaction) (xs : List Reaction) → ((q : ℕ) → 1 ≤ q → q ≤ length (x ∷ xs) → P (numbered (x ∷ xs) q)) → (q : ℕ) → 1 ≤ q → q ≤ length xs → P (numbered xs q)
+pub each_later : (P : Reaction → Type 0) (x : Reaction) (xs : List Reaction) → ((q : ℕ) → 1 ≤ q → q ≤ length (x ∷ xs) → P (numbered (x ∷ xs) q)) → (q : ℕ) → 1 ≤ q → q ≤ length xs → P (numbered xs q)
 each_later P x xs all zero low high = absurd (omega arith)
 each_later P x xs all (suc q) low high = all (suc (suc q)) (omega arith) (omega arith)
 
@@ -275,19 +275,19 @@ context_is rails n k inputs low high free =
     let below_is : nat_le k n ≡ true = le-leb k n high in
     rw (above_is, below_is, free) refl
 
-named_on : (rails : Rails) (two : Bool) (n : ℕ) (e : Ends) (es : List Ends) (ts : List Plain) (t : Place) → begins (codes "input") ts ≡ false → after_inputs rails two n (e ∷ es) ts ≡ Some t → naming rails two n (e ∷ es) ts ≡ Some t
-named_on rails two n e es ts t other is =
-    ap (λ b. cond b (option_and_then (with_input rails two n (e ∷ es)) (ends_of rails n (rest_of ts))) (cond (length (e ∷ es) == 0) None (after_inputs rails two n (e ∷ es) ts))) other
-    ∙ ap (λ b. cond b None (after_inputs rails two n (e ∷ es) ts)) (ne_eqb (length (e ∷ es)) 0 (omega arith)) ∙ is
+pub named_on : (rails : Rails) (two : Bool) (n : ℕ) (es : List Ends) (ts : List Plain) (t : Place) → 0 < length es → begins (codes "input") ts ≡ false → after_inputs rails two n es ts ≡ Some t → naming rails two n es ts ≡ Some t
+named_on rails two n es ts t some other is =
+    ap (λ b. cond b (option_and_then (with_input rails two n es) (ends_of rails n (rest_of ts))) (cond (length es == 0) None (after_inputs rails two n es ts))) other
+    ∙ ap (λ b. cond b None (after_inputs rails two n es ts)) (ne_eqb (length es) 0 (omega arith)) ∙ is
 
 ends_named : (rails : Rails) (two : Bool) (n : ℕ) (e : Ends) (es : List Ends) → least rails two ≤ n → leaves_one two n (e ∷ es) ≡ true → CanStop (Naming rails two n (e ∷ es))
 ends_named rails false n e es enough leaves =
     ends_after (Naming rails false n (e ∷ es)) (Closed (frame rails n (e ∷ es) None (first_ends rails))) (output_tokens rails)
-    (named_on rails false n e es (output_tokens rails) _ refl (output_is rails false n (e ∷ es) None enough)) (ends_closed _)
+    (named_on rails false n (e ∷ es) (output_tokens rails) _ (omega arith) refl (output_is rails false n (e ∷ es) None enough)) (ends_closed _)
 ends_named rails true n e es enough leaves =
     let (k, low, high, free) = left (e ∷ es) n leaves in
     ends_after (Naming rails true n (e ∷ es)) (Placed rails n (e ∷ es) k) (PlainWord (codes "context") ∷ species k)
-    (named_on rails true n e es (PlainWord (codes "context") ∷ species k) _ refl (context_is rails n k (e ∷ es) low high free)) (ends_placed rails n (e ∷ es) k enough)
+    (named_on rails true n (e ∷ es) (PlainWord (codes "context") ∷ species k) _ (omega arith) refl (context_is rails n k (e ∷ es) low high free)) (ends_placed rails n (e ∷ es) k enough)
 
 ends_naming : (rails : Rails) (two : Bool) (n : ℕ) (inputs : List Ends) → least rails two ≤ n → leaves_one two n inputs ≡ true → CanStop (Naming rails two n inputs)
 ends_naming rails two n (e ∷ es) enough leaves = ends_named rails two n e es enough leaves

@@ -7,3 +7,5 @@ pub mod Kept
 pub mod Readers
 pub mod Spells
 pub mod Prints
+pub mod Spelled
+pub mod Sizes

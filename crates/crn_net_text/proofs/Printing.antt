@@ -1,29 +1,22 @@
 -- What is written of parts and of lines, one after another.
-use Rattle.std.proofs.Common.{◌≡◌, ℕ, ℤ, pos, negsuc, zero, suc, ◌<ℤ◌, ◌+◌, ◌<◌, List, [], ◌∷◌, ◌++◌, length, take, map, get_or, sym, ap, ◌∙◌, refl, append_assoc, arith}
+use Rattle.std.proofs.Common.{◌≡◌, ℕ, ℤ, pos, negsuc, zero, suc, ◌<ℤ◌, ◌+◌, ◌<◌, List, [], ◌∷◌, ◌++◌, length, take, map, get_or, sym, ap, ◌∙◌, refl, subst, append_assoc, arith}
 use Rattle.std.proofs.lemmas.List.{take_more, map-append, length-map, length-take-le}
-use Rattle.std.specs.Prelude.{codes}
+use Rattle.std.specs.Prelude.{codes, All}
 use Rattle.std.proofs.lemmas.Int.{ints}
+use Rattle.std.proofs.lemmas.List.Elements.{All-push}
 use Rattle.std.proofs.lemmas.Fmt.{decimal_digit}
 use Rattle.crn_net.specs.Network.{Part, Reaction, AreParts, numbered}
 use Rattle.crn_net.specs.declared.Part as coded
 use Rattle.crn_net.specs.Views.{natural, part_of, parts_of}
-use Rattle.crn_token.specs.Printed.{Item, Shown, Blank, spelled, printed, token_bytes}
+use Rattle.crn_token.specs.Printed.{Item, Blank, spelled, printed}
+use Rattle.crn_token.proofs.Joins.{spelled-append, printed-append}
 use Rattle.crn_token.specs.declared.Sign.TheVariants.{Arrow}
-use Rattle.crn_net_text.specs.NetworkText.{symbol, part_items, next_items, side_items, gives_items}
+use Rattle.crn_net_text.specs.NetworkText.{IsSmall, symbol, part_items, next_items, side_items, gives_items}
 
 -- a count that is not 0 as a natural number is positive
 positive : (z : ℤ) → 0 < natural z → pos 0 <ℤ z
 positive (pos n) some = omega (arith, ints, some)
 positive (negsuc n) some = absurd (omega (arith, some))
-
-pub spelled-append : (xs ys : List Item) → spelled (xs ++ ys) ≡ spelled xs ++ spelled ys
-spelled-append [] ys = refl
-spelled-append (Blank ∷ xs) ys = ap (λ l. 32 ∷ l) (spelled-append xs ys)
-spelled-append (Shown token ∷ xs) ys = ap (λ l. token_bytes token ++ l) (spelled-append xs ys) ∙ sym (append_assoc (token_bytes token) (spelled xs) (spelled ys))
-
-pub printed-append : (xs ys : List (List Item)) → printed (xs ++ ys) ≡ printed xs ++ printed ys
-printed-append [] ys = refl
-printed-append (x ∷ xs) ys = ap (λ l. spelled x ++ (10 ∷ l)) (printed-append xs ys) ∙ sym (append_assoc (spelled x) (10 ∷ printed xs) (printed ys))
 
 -- the parts, and one more
 side_more : (p : Part) (ps : List Part) (q : Part) → spelled (side_items ((p ∷ ps) ++ q ∷ [])) ≡ spelled (side_items (p ∷ ps)) ++ (codes " + " ++ spelled (part_items q))
@@ -49,6 +42,14 @@ side_step old before after ps i d within so_far more =
     let next : spelled (side_items (parts_of (take (i + 1) ps))) ≡ spelled (side_items (parts_of (take i ps))) ++ spelled (next_items i p) =
     ap (λ l. spelled (side_items l)) longer ∙ side_next (parts_of (take i ps)) p ∙ ap (λ k. spelled (side_items (parts_of (take i ps))) ++ spelled (next_items k p)) count in
     more ∙ ap (λ l. l ++ spelled (next_items i p)) so_far ∙ append_assoc old _ _ ∙ ap (λ l. old ++ l) (sym next)
+
+-- what holds of the first so many, and of the next
+pub all_step : {X : Type 0} (P : X → Type 0) (xs : List X) (i : ℕ) (d : X) → i < length xs → All P (take i xs) → P (get_or xs i d) → All P (take (i + 1) xs)
+all_step P xs i d within all here = subst (All P) (sym (take_more xs i d within)) (All-push P (take i xs) (get_or xs i d) all here)
+
+pub small_step : (ps : List coded.Part) (i : ℕ) (d : coded.Part) → i < length ps → All IsSmall (parts_of (take i ps)) → IsSmall (part_of (get_or ps i d)) → All IsSmall (parts_of (take (i + 1) ps))
+small_step ps i d within all here =
+    subst (All IsSmall) (sym (ap parts_of (take_more ps i d within) ∙ map-append part_of (take i ps) (get_or ps i d ∷ []))) (All-push IsSmall (parts_of (take i ps)) (part_of (get_or ps i d)) all here)
 
 -- a front, the lines of the first so many, and the next
 pub lines_step : {X : Type 0} (f : X → List Item) (old front before after : List ℕ) (xs : List X) (i : ℕ) (d : X) → i < length xs

@@ -12,6 +12,7 @@ use Rattle.crn_net.specs.Network.{Part, Reaction, Network}
 use Rattle.crn_net.specs.declared.Rails.{Rails}
 use Rattle.crn_net_text.specs.Grammar.{Titled, Listing, within, species_at, many, part_by, part_at, side_at, side_of, gives_of, reaction_with, reaction_of, is_arrow, is_nothing, begins, number_at, number_of, is_plus, rails_of, version_of, title_with, sized, size, count}
 use Rattle.crn_net_text.specs.Reading.{judged}
+use Rattle.crn_net_text.proofs.Found.{next_side}
 
 pub species_by : (low n : ℕ) (ts us : List Plain) (o : Option ℕ) → begins (codes "S") ts ≡ true → us ≡ rest_of ts → o ≡ number_at us → option_and_then (within low n) o ≡ species_at low n ts
 species_by low n ts us o begin us_is o_is =
@@ -31,9 +32,6 @@ pub part_one : (low n : ℕ) (ts : List Plain) (o : Option ℕ) → None ≡ num
 part_one low n ts o number o_is = ap (option_map (λ a. (many 1 a, 2))) o_is ∙ ap (part_by low n ts) number
 
 -- ---- sides
-abbrev pub next_side : ℕ → ℕ → List Plain → Part × ℕ → Option (List Part × ℕ)
-next_side k n ts p = cond (is_plus (drop p.1 ts)) (option_map (λ q. (p.0 ∷ q.0, p.1 + 1 + q.1)) (side_at k p.0.species n (drop (p.1 + 1) ts))) (Some (p.0 ∷ [], p.1))
-
 abbrev pub onto : List Part → ℕ → Option (List Part × ℕ) → Option (List Part × ℕ)
 onto ps taken o = option_map (λ q. (ps ++ q.0, taken + q.1)) o
 
@@ -96,7 +94,7 @@ count_by net ts us o begin us_is number =
     ap (option_map (λ m. Listing m net)) (number ∙ ap number_of us_is) ∙ sym (ap (λ b. cond b (option_map (λ m. Listing m net) (number_of (rest_of ts))) None) begin)
 
 -- how many reactions there are is known where none is read
-none_read : (m : ℕ) (net : Network) → net.reactions ≡ [] → length net.reactions + m ≡ m
+pub none_read : (m : ℕ) (net : Network) → net.reactions ≡ [] → length net.reactions + m ≡ m
 none_read m net none = omega (arith, ap length none)
 
 pub count_past : (line m : ℕ) (net : Network) → net.reactions ≡ [] → 65536 < m → judged line (Some (Listing m net)) ≡ Limited (counted.Reactions, m)

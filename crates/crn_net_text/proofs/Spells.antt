@@ -6,7 +6,7 @@ use Rattle.crn_token.specs.declared.Sign.TheVariants.{Plus, Arrow}
 use Rattle.crn_token.specs.Plain.{Plain, PlainLine, PlainWord, PlainNumber, PlainSign}
 use Rattle.crn_token.specs.Printed.{Item, Shown, Blank, shown}
 use Rattle.crn_grammar.specs.Table.{IsText, after}
-use Rattle.crn_function_text.specs.Words.{rest_of, says}
+use Rattle.crn_function_text.specs.Words.{says}
 use Rattle.crn_net.specs.Network.{Part, Reaction, Network, IsNetwork, IsReaction, AreParts, IsEnds, AreEnds, AreDifferent, IsApart, IsContext, input_species, numbered}
 use Rattle.crn_net.specs.Inputs.{species_of, AreNew}
 use Rattle.crn_net.specs.declared.Rails.{Rails}
@@ -15,8 +15,10 @@ use Rattle.crn_net.specs.declared.Ends.{Ends}
 use Rattle.crn_net.specs.declared.Ends.TheVariants.{Pair, One}
 use Rattle.crn_net.proofs.InputLists.{species_push, last_end, new_of_different, apart_left}
 use Rattle.crn_net_text.specs.NetworkText.{version, rails_word, species_items, part_items, side_items, gives_items, reaction_items, ends_items, count_line, input_line, context_lines, output_line, ends_lines, reaction_lines, network_lines}
-use Rattle.crn_net_text.specs.Grammar.{Say, IsNetworkText, Place, Start, Titled, Naming, Placed, Closed, Listing, least, frame, with_reaction, begins, with_input, with_context, after_inputs, naming, pair_with, is_named, is_new, leaves_one, with_output, one_of, ends_of, side_at, part_at, species_at, reaction_of, reaction_with, gives_of, side_of, is_plus, is_nothing, many, follow, network_table}
+use Rattle.crn_net_text.specs.Grammar.{Say, IsNetworkText, Place, Start, Titled, Naming, Placed, Closed, Listing, least, frame, with_reaction, with_input, with_context, pair_with, is_named, is_new, leaves_one, with_output, one_of, ends_of, side_at, part_at, species_at, reaction_of, reaction_with, gives_of, side_of, is_plus, is_nothing, many, follow, network_table}
 use Rattle.crn_net_text.proofs.Left.{left_here}
+use Rattle.crn_net_text.proofs.Kept.{each_later, named_on}
+use Rattle.crn_net_text.proofs.Found.{next_side}
 
 -- ---- lines of tokens, one after another
 abbrev goes : Place → List (List Item) → Option Place
@@ -46,13 +48,13 @@ goes-append s t (x ∷ xs) ys is = go (λ u there. goes-append u t xs ys there) 
     go again None there = let wrong : ◌≡◌ {A = Option Place} None (Some t) = there in cc
     go again (Some u) there = again u there
 
-shown-append : (xs ys : List Item) → shown (xs ++ ys) ≡ shown xs ++ shown ys
+pub shown-append : (xs ys : List Item) → shown (xs ++ ys) ≡ shown xs ++ shown ys
 shown-append [] ys = refl
 shown-append (Blank ∷ xs) ys = shown-append xs ys
 shown-append (Shown token ∷ xs) ys = ap (λ l. token ∷ l) (shown-append xs ys)
 
 -- ---- species and parts
-abbrev species_tokens : ℕ → List Plain → List Plain
+abbrev pub species_tokens : ℕ → List Plain → List Plain
 species_tokens a more = PlainWord (codes "S") ∷ PlainNumber (pos a) ∷ more
 
 species_here : (low n a : ℕ) (more : List Plain) → low < a → a ≤ n → species_at low n (species_tokens a more) ≡ Some a
@@ -61,10 +63,10 @@ species_here low n a more above below =
     let below_is : nat_le a n ≡ true = le-leb a n below in
     rw (above_is, below_is) refl
 
-abbrev part_tokens : Part → List Plain → List Plain
+abbrev pub part_tokens : Part → List Plain → List Plain
 part_tokens p more = cond (p.count == 1) (species_tokens p.species more) (PlainNumber (pos p.count) ∷ species_tokens p.species more)
 
-abbrev size_of : Part → ℕ
+abbrev pub size_of : Part → ℕ
 size_of p = cond (p.count == 1) 2 3
 
 module _ (low n : ℕ) (p : Part) (more : List Plain) (above : low < p.species) (below : p.species ≤ n) (some : 0 < p.count) where
@@ -80,7 +82,7 @@ module _ (low n : ℕ) (p : Part) (more : List Plain) (above : low < p.species) 
   part_here : part_at low n (part_tokens p more) ≡ Some (p, size_of p)
   part_here = part_by_count (p.count == 1) refl
 
-part_left : (p : Part) (more : List Plain) → drop (size_of p) (part_tokens p more) ≡ more
+pub part_left : (p : Part) (more : List Plain) → drop (size_of p) (part_tokens p more) ≡ more
 part_left p more = go (p.count == 1)
   where
     go : (b : Bool) → drop (cond b 2 3) (cond b (species_tokens p.species more) (PlainNumber (pos p.count) ∷ species_tokens p.species more)) ≡ more
@@ -102,15 +104,15 @@ part_shown p more = go (p.count == 1)
     go false = refl
 
 -- ---- sides
-abbrev side_tokens : Part → List Part → List Plain → List Plain
+abbrev pub side_tokens : Part → List Part → List Plain → List Plain
 side_tokens p [] more = part_tokens p more
 side_tokens p (q ∷ ps) more = part_tokens p (PlainSign Plus ∷ side_tokens q ps more)
 
-abbrev side_size : Part → List Part → ℕ
+abbrev pub side_size : Part → List Part → ℕ
 side_size p [] = size_of p
 side_size p (q ∷ ps) = size_of p + 1 + side_size q ps
 
-side_shown : (p : Part) (ps : List Part) (more : List Plain) → shown (side_items (p ∷ ps)) ++ more ≡ side_tokens p ps more
+pub side_shown : (p : Part) (ps : List Part) (more : List Plain) → shown (side_items (p ∷ ps)) ++ more ≡ side_tokens p ps more
 side_shown p [] more = part_shown p more
 side_shown p (q ∷ ps) more =
     ap (λ l. l ++ more) (shown-append (part_items p) (Blank ∷ Shown (PlainSign Plus) ∷ Blank ∷ side_items (q ∷ ps)))
@@ -118,11 +120,11 @@ side_shown p (q ∷ ps) more =
     ∙ part_shown p (PlainSign Plus ∷ (shown (side_items (q ∷ ps)) ++ more))
     ∙ ap (λ l. part_tokens p (PlainSign Plus ∷ l)) (side_shown q ps more)
 
-side_long : (p : Part) (ps : List Part) (more : List Plain) → length (side_tokens p ps more) ≡ side_size p ps + length more
+pub side_long : (p : Part) (ps : List Part) (more : List Plain) → length (side_tokens p ps more) ≡ side_size p ps + length more
 side_long p [] more = part_long p more
 side_long p (q ∷ ps) more = omega (arith, part_long p (PlainSign Plus ∷ side_tokens q ps more), side_long q ps more)
 
-some_size : (p : Part) → 2 ≤ size_of p
+pub some_size : (p : Part) → 2 ≤ size_of p
 some_size p = go (p.count == 1)
   where
     go : (b : Bool) → 2 ≤ cond b 2 3
@@ -133,15 +135,12 @@ side_enough : (p : Part) (ps : List Part) → length (p ∷ ps) ≤ side_size p 
 side_enough p [] = omega (arith, some_size p)
 side_enough p (q ∷ ps) = omega (arith, some_size p, side_enough q ps)
 
-side_left : (p : Part) (ps : List Part) (more : List Plain) → drop (side_size p ps) (side_tokens p ps more) ≡ more
+pub side_left : (p : Part) (ps : List Part) (more : List Plain) → drop (side_size p ps) (side_tokens p ps more) ≡ more
 side_left p [] more = part_left p more
 side_left p (q ∷ ps) more =
     sym (drop-drop (side_size q ps) (size_of p + 1) (side_tokens p (q ∷ ps) more))
     ∙ ap (drop (side_size q ps)) (sym (drop-drop 1 (size_of p) (side_tokens p (q ∷ ps) more)) ∙ ap (drop 1) (part_left p (PlainSign Plus ∷ side_tokens q ps more)))
     ∙ side_left q ps more
-
-abbrev next_side : ℕ → ℕ → List Plain → Part × ℕ → Option (List Part × ℕ)
-next_side k n ts p = cond (is_plus (drop p.1 ts)) (option_map (λ q. (p.0 ∷ q.0, p.1 + 1 + q.1)) (side_at k p.0.species n (drop (p.1 + 1) ts))) (Some (p.0 ∷ [], p.1))
 
 side_here : (k low n : ℕ) (p : Part) (ps : List Part) (more : List Plain) → length (p ∷ ps) ≤ k → AreParts low n (p ∷ ps) → is_plus more ≡ false → side_at k low n (side_tokens p ps more) ≡ Some (p ∷ ps, side_size p ps)
 side_here zero low n p ps more enough are stop = absurd (omega arith)
@@ -227,7 +226,7 @@ new_here : (es : List Ends) (e : Ends) → AreNew (species_of e) (input_species 
 new_here es (Pair a b) new = ap₂ (λ p q. not p && not q) (apart_free es a new.0) (apart_free es b new.1.0)
 new_here es (One a) new = ap not (apart_free es a new.0)
 
-abbrev has_context : Option ℕ → Bool
+abbrev pub has_context : Option ℕ → Bool
 has_context None = false
 has_context (Some k) = true
 
@@ -235,15 +234,15 @@ left_for : (n : ℕ) (es : List Ends) (context : Option ℕ) → IsContext n es 
 left_for n es None is = refl
 left_for n es (Some k) is = left_here es n k is.0 is.1 (apart_free es k is.2)
 
+species-append : (xs ys : List Ends) → input_species (xs ++ ys) ≡ input_species xs ++ input_species ys
+species-append [] ys = refl
+species-append (Pair a b ∷ xs) ys = ap (λ l. a ∷ b ∷ l) (species-append xs ys)
+species-append (One a ∷ xs) ys = ap (λ l. a ∷ l) (species-append xs ys)
+
 context_of : (n : ℕ) (es : List Ends) (e : Ends) (fs : List Ends) (context : Option ℕ) → IsContext n (es ++ e ∷ fs) context → IsContext n (es ++ e ∷ []) context
 context_of n es e fs None is = tt
 context_of n es e fs (Some k) is =
-    (is.0, is.1, apart_left k (input_species (es ++ e ∷ [])) (input_species fs) (subst (IsApart k) (ap input_species (sym (append_assoc es (e ∷ []) fs)) ∙ both_species (es ++ e ∷ []) fs) is.2))
-  where
-    both_species : (xs ys : List Ends) → input_species (xs ++ ys) ≡ input_species xs ++ input_species ys
-    both_species [] ys = refl
-    both_species (Pair a b ∷ xs) ys = ap (λ l. a ∷ b ∷ l) (both_species xs ys)
-    both_species (One a ∷ xs) ys = ap (λ l. a ∷ l) (both_species xs ys)
+    (is.0, is.1, apart_left k (input_species (es ++ e ∷ [])) (input_species fs) (subst (IsApart k) (ap input_species (sym (append_assoc es (e ∷ []) fs)) ∙ species-append (es ++ e ∷ []) fs) is.2))
 
 input_goes : (rails : Rails) (n : ℕ) (context : Option ℕ) (es : List Ends) (e : Ends) → AreEnds rails n (es ++ e ∷ []) → AreDifferent (input_species (es ++ e ∷ [])) → IsContext n (es ++ e ∷ []) context
     → follow (Naming rails (has_context context) n es) (shown (input_line e)) ≡ Some (Naming rails (has_context context) n (es ++ e ∷ []))
@@ -261,11 +260,6 @@ ends_first rails n (e ∷ es) fs are = (are.0, ends_first rails n es fs are.1)
 different_first : (xs ys : List ℕ) → AreDifferent (xs ++ ys) → AreDifferent xs
 different_first [] ys are = tt
 different_first (x ∷ xs) ys are = (apart_left x xs ys are.0, different_first xs ys are.1)
-
-species-append : (xs ys : List Ends) → input_species (xs ++ ys) ≡ input_species xs ++ input_species ys
-species-append [] ys = refl
-species-append (Pair a b ∷ xs) ys = ap (λ l. a ∷ b ∷ l) (species-append xs ys)
-species-append (One a ∷ xs) ys = ap (λ l. a ∷ l) (species-append xs ys)
 
 inputs_go : (rails : Rails) (n : ℕ) (context : Option ℕ) (es fs : List Ends) → AreEnds rails n (es ++ fs) → AreDifferent (input_species (es ++ fs)) → IsContext n (es ++ fs) context
     → goes (Naming rails (has_context context) n es) (map input_line fs) ≡ Some (Naming rails (has_context context) n (es ++ fs))
@@ -285,10 +279,6 @@ inputs_go rails n context es (f ∷ fs) ends different is =
 abbrev with_reactions : Network → List Reaction → Network
 with_reactions net rs = record { rails = net.rails; species = net.species; reactions = net.reactions ++ rs; inputs = net.inputs; output = net.output; context = net.context }
 
-each_later : (P : Reaction → Type 0) (x : Reaction) (xs : List Reaction) → ((q : ℕ) → 1 ≤ q → q ≤ length (x ∷ xs) → P (numbered (x ∷ xs) q)) → (q : ℕ) → 1 ≤ q → q ≤ length xs → P (numbered xs q)
-each_later P x xs all zero low high = absurd (omega arith)
-each_later P x xs all (suc q) low high = all (suc (suc q)) (omega arith) (omega arith)
-
 reactions_go : (net : Network) (rs : List Reaction) → ((r : ℕ) → 1 ≤ r → r ≤ length rs → IsReaction net.species (numbered rs r)) → goes (Listing (length rs) net) (map reaction_items rs) ≡ Some (Listing 0 (with_reactions net rs))
 reactions_go net [] are = ap (λ l. Some (Listing 0 (record { rails = net.rails; species = net.species; reactions = l; inputs = net.inputs; output = net.output; context = net.context }))) (sym (append-nil net.reactions))
 reactions_go net (r ∷ rs) are =
@@ -297,7 +287,7 @@ reactions_go net (r ∷ rs) are =
     ∙ ap (λ l. Some (Listing 0 (record { rails = net.rails; species = net.species; reactions = l; inputs = net.inputs; output = net.output; context = net.context }))) (append_assoc net.reactions (r ∷ []) rs)
 
 -- ---- how many species there are
-enough : (rails : Rails) (n : ℕ) (inputs : List Ends) (output : Ends) (context : Option ℕ) → 0 < length inputs → AreEnds rails n inputs → IsEnds rails n output → IsContext n inputs context → least rails (has_context context) ≤ n
+pub enough : (rails : Rails) (n : ℕ) (inputs : List Ends) (output : Ends) (context : Option ℕ) → 0 < length inputs → AreEnds rails n inputs → IsEnds rails n output → IsContext n inputs context → least rails (has_context context) ≤ n
 enough rails n [] output context some ends out is = absurd (omega arith)
 enough Dual n (e ∷ es) (One a) context some ends out is = absurd out
 enough Direct n (e ∷ es) (Pair a b) context some ends out is = absurd out
@@ -323,11 +313,6 @@ title_goes Direct (Some k) = refl
 
 size_goes : (rails : Rails) (two : Bool) (n : ℕ) → least rails two ≤ n → follow (Titled rails two) (shown (count_line (codes "species") n)) ≡ Some (Naming rails two n [])
 size_goes rails two n fits = ap (λ b. cond b (Some (Naming rails two n [])) None) (le-leb (least rails two) n fits)
-
-named_on : (rails : Rails) (two : Bool) (n : ℕ) (es : List Ends) (ts : List Plain) (t : Place) → 0 < length es → begins (codes "input") ts ≡ false → after_inputs rails two n es ts ≡ Some t → naming rails two n es ts ≡ Some t
-named_on rails two n es ts t some other is =
-    ap (λ b. cond b (option_and_then (with_input rails two n es) (ends_of rails n (rest_of ts))) (cond (length es == 0) None (after_inputs rails two n es ts))) other
-    ∙ ap (λ b. cond b None (after_inputs rails two n es ts)) (ne_eqb (length es) 0 (omega arith)) ∙ is
 
 output_goes : (rails : Rails) (n : ℕ) (es : List Ends) (context : Option ℕ) (e : Ends) → IsEnds rails n e → with_output rails n es context (shown (output_line e)) ≡ Some (Closed (frame rails n es context e))
 output_goes rails n es context e is = ap (option_map (λ e. Closed (frame rails n es context e))) (ends_here rails n e is)

@@ -1,5 +1,5 @@
 -- The text of a network, as lines of tokens with a blank between two or none.
-use Rattle.std.specs.Prelude.{ℕ, zero, suc, pos, ◌==◌, if◌then◌else◌, List, [], ◌∷◌, ◌++◌, length, map, codes, Option, None, Some}
+use Rattle.std.specs.Prelude.{ℕ, zero, suc, pos, ◌≤◌, ◌==◌, if◌then◌else◌, List, [], ◌∷◌, ◌++◌, length, map, codes, All, Option, None, Some}
 use Rattle.crn_token.specs.declared.Sign.{Sign}
 use Rattle.crn_token.specs.declared.Sign.TheVariants.{Plus, Arrow}
 use Rattle.crn_token.specs.Plain.{PlainWord, PlainNumber, PlainSign}
@@ -92,3 +92,14 @@ network_lines net = header_lines net ++ (ends_lines net ++ reaction_lines net)
 -- the text of a network
 abbrev pub network_text : Network → List ℕ
 network_text net = printed (network_lines net)
+
+-- ---- counts that a text can have
+-- the count is at most the greatest number of a text
+abbrev pub IsSmall : Part → Type 0
+IsSmall p = p.count ≤ 9223372036854775807
+
+abbrev pub IsSmallReaction : Reaction → Type 0
+IsSmallReaction r = All IsSmall r.takes × All IsSmall r.gives
+
+abbrev pub HasSmallCounts : Network → Type 0
+HasSmallCounts net = All IsSmallReaction net.reactions

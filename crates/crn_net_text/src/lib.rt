@@ -8,8 +8,9 @@ ghost use Rattle.crn_grammar.specs.Table.{IsText, PassesNone, IsAnswer};
 ghost use Rattle.crn_grammar.specs.Table as table;
 ghost use Rattle.crn_grammar.specs.Part.{part_end};
 ghost use Rattle.crn_net.specs.Network as plain;
+ghost use Rattle.crn_net.specs.Limits.{IsWithinLimits};
 ghost use Rattle.crn_function_text.specs.Grammar.{line_number, end_of};
-ghost use Rattle.crn_net_text.specs.Grammar.{network_table, network_answer, network_part};
+ghost use Rattle.crn_net_text.specs.Grammar.{IsNetworkText, network_table, network_answer, network_part};
 ghost use Rattle.crn_net_text.specs.Reading.{place_of, Gives, GivesPart, IsRight, IsKept};
 
 use crn_net::Network;
@@ -110,6 +111,9 @@ pub fn read_network(alloc: Global, bytes: &[u8]) -> Result<Network, NetTextError
     // A text that passes no limit is read.
     ensures read { (net : plain.Network) → IsText network_table (plain_lines bytes.now) net → PassesNone network_table (plain_lines bytes.now)
         → Gives (λ n. n) result (table.Read net) }
+    // The lines of what is read are the printed lines of the network, and each text of such lines is read that is within the limits.
+    ensures spelled { IfOk result (IsNetworkText (plain_lines bytes.now)) }
+    ensures printed { (net : plain.Network) → IsNetworkText (plain_lines bytes.now) net → IsWithinLimits net → Gives (λ n. n) result (table.Read net) }
 {
     read_text(alloc, bytes)
 }

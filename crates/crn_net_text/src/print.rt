@@ -2,17 +2,27 @@
 
 ghost use Rattle.std.specs.Prelude.{◌≡◌, ◌++◌, ◌∷◌, [], pos, ◌<ℤ◌, length, map, string_bytes, IfOk, OnOk, All};
 ghost use Rattle.crn_net.specs.Network.{AreParts};
+ghost use Rattle.crn_net.specs.Limits.{IsValid};
 ghost use Rattle.crn_net.specs.Views.{part_of, parts_of, reaction_of, reactions_of};
+ghost use Rattle.crn_token.specs.Plain.{plain_lines};
 ghost use Rattle.crn_token.specs.Printed.{spelled, printed};
-ghost use Rattle.crn_net_text.specs.NetworkText.{part_items, next_items, side_items, gives_items, reaction_items, ends_items, context_lines, header_lines, input_line, output_line, ends_lines, reaction_lines, network_text};
+ghost use Rattle.crn_grammar.specs.Table.{IsText, PassesNone};
+ghost use Rattle.crn_net_text.specs.Grammar.{network_table};
+ghost use Rattle.crn_net_text.specs.NetworkText.{IsSmall, IsSmallReaction, HasSmallCounts, part_items, next_items, side_items, gives_items, reaction_items, ends_items, context_lines, header_lines, input_line, output_line, ends_lines, reaction_lines, network_text};
 
 use crn_net::{Ends, Network, Part, Rails, Reaction};
 use std::alloc::{AllocError, Global};
 use std::fmt::Write;
 
 /// The text of a network, every line of it ended by a line feed. A network with a context is printed as version 2, and one without as version 1.
+/// `read_network` refuses it for want of memory alone, and otherwise gives the network.
 pub fn print_network(alloc: Global, network: &Network) -> Result<Vec<u8>, AllocError>
-    ensures { IfOk result (λ text. text.items ≡ network_text network.now) }
+    ensures text { IfOk result (λ text. text.items ≡ network_text network.now) }
+    // The text reads back as the network and passes no limit.
+    ensures spells { IfOk result (λ text. IsText network_table (plain_lines text.items) network.now) }
+    ensures limits { IfOk result (λ text. PassesNone network_table (plain_lines text.items)) }
+    // No count in the text is above the greatest number that a text can have.
+    ensures counts { IfOk result (λ text. HasSmallCounts network.now) }
 {
     let mut out = String::new(alloc);
     write_header(&mut out, network)?;
@@ -23,7 +33,8 @@ pub fn print_network(alloc: Global, network: &Network) -> Result<Vec<u8>, AllocE
 
 // The version with the rails, and the number of species.
 fn write_header(out: &mut String, network: &Network) -> Result<(), AllocError>
-    ensures { OnOk result (string_bytes out.new ≡ string_bytes out.old ++ printed (header_lines network.now)) }
+    ensures text { OnOk result (string_bytes out.new ≡ string_bytes out.old ++ printed (header_lines network.now)) }
+    ensures valid { IsValid network.now }
 {
     let version = match network.context() {
         Some(_) => 2u32,
@@ -93,7 +104,8 @@ fn write_all_ends(out: &mut String, network: &Network) -> Result<(), AllocError>
 // A count of 1 is not written.
 fn write_part(out: &mut String, part: Part) -> Result<(), AllocError>
     requires { pos 0 <ℤ part.count }
-    ensures { OnOk result (string_bytes out.new ≡ string_bytes out.old ++ spelled (part_items (part_of part))) }
+    ensures text { OnOk result (string_bytes out.new ≡ string_bytes out.old ++ spelled (part_items (part_of part))) }
+    ensures small { IsSmall (part_of part) }
 {
     let Part { species, count } = part;
     if count != 1 {
@@ -105,7 +117,8 @@ fn write_part(out: &mut String, part: Part) -> Result<(), AllocError>
 // A part, with ` + ` before it where it is not the first.
 fn write_next(out: &mut String, index: usize, part: Part) -> Result<(), AllocError>
     requires { pos 0 <ℤ part.count }
-    ensures { OnOk result (string_bytes out.new ≡ string_bytes out.old ++ spelled (next_items index (part_of part))) }
+    ensures text { OnOk result (string_bytes out.new ≡ string_bytes out.old ++ spelled (next_items index (part_of part))) }
+    ensures small { IsSmall (part_of part) }
 {
     if index > 0 {
         out.push_str(" + ")?;
@@ -116,7 +129,8 @@ fn write_next(out: &mut String, index: usize, part: Part) -> Result<(), AllocErr
 // The parts, with ` + ` between two.
 fn write_side(out: &mut String, parts: &[Part]) -> Result<(), AllocError>
     requires { All (λ p. pos 0 <ℤ p.count) parts.now }
-    ensures { OnOk result (string_bytes out.new ≡ string_bytes out.old ++ spelled (side_items (parts_of parts.now))) }
+    ensures text { OnOk result (string_bytes out.new ≡ string_bytes out.old ++ spelled (side_items (parts_of parts.now))) }
+    ensures small { OnOk result (All IsSmall (parts_of parts.now)) }
 {
     for (index, part) in parts.iter().enumerate() {
         write_next(out, index, *part)?;
@@ -127,7 +141,8 @@ fn write_side(out: &mut String, parts: &[Part]) -> Result<(), AllocError>
 // What a reaction gives, or `0`.
 fn write_gives(out: &mut String, parts: &[Part]) -> Result<(), AllocError>
     requires { All (λ p. pos 0 <ℤ p.count) parts.now }
-    ensures { OnOk result (string_bytes out.new ≡ string_bytes out.old ++ spelled (gives_items (parts_of parts.now))) }
+    ensures text { OnOk result (string_bytes out.new ≡ string_bytes out.old ++ spelled (gives_items (parts_of parts.now))) }
+    ensures small { OnOk result (All IsSmall (parts_of parts.now)) }
 {
     match parts {
         [] => out.push('0'),
@@ -138,7 +153,8 @@ fn write_gives(out: &mut String, parts: &[Part]) -> Result<(), AllocError>
 fn write_reaction(out: &mut String, reaction: &Reaction) -> Result<(), AllocError>
     requires takes { All (λ p. pos 0 <ℤ p.count) reaction.now.takes.items }
     requires gives { All (λ p. pos 0 <ℤ p.count) reaction.now.gives.items }
-    ensures { OnOk result (string_bytes out.new ≡ string_bytes out.old ++ printed (reaction_items (reaction_of reaction.now) ∷ [])) }
+    ensures text { OnOk result (string_bytes out.new ≡ string_bytes out.old ++ printed (reaction_items (reaction_of reaction.now) ∷ [])) }
+    ensures small { OnOk result (IsSmallReaction (reaction_of reaction.now)) }
 {
     write_side(out, &reaction.takes)?;
     out.push_str(" -> ")?;
@@ -148,7 +164,8 @@ fn write_reaction(out: &mut String, reaction: &Reaction) -> Result<(), AllocErro
 
 // How many reactions there are, and a line for each.
 fn write_reactions(out: &mut String, network: &Network) -> Result<(), AllocError>
-    ensures { OnOk result (string_bytes out.new ≡ string_bytes out.old ++ printed (reaction_lines network.now)) }
+    ensures text { OnOk result (string_bytes out.new ≡ string_bytes out.old ++ printed (reaction_lines network.now)) }
+    ensures small { OnOk result (HasSmallCounts network.now) }
 {
     let count = network.reaction_count();
     write!(out, "reactions {count}\n")?;

@@ -132,6 +132,10 @@ fn reads_or_refuses(rt: HostRuntime) -> Result<(), Fail> {
             limit(Counted::Inputs, 9),
         ),
         (
+            b"crn 1 direct\nspecies 9\ninput S1\ninput S2\ninput S3\ninput S4\ninput S5\ninput S6\ninput S7\ninput S8\ninput S1\n".as_slice(),
+            malformed(11),
+        ),
+        (
             b"crn 2 direct\nspecies 9\ninput S1\ninput S2\ninput S3\ninput S4\ninput S5\ninput S6\ninput S7\ninput S8\ninput S9\n".as_slice(),
             malformed(11),
         ),
@@ -146,5 +150,16 @@ fn a_short_minimum_is_refused(rt: HostRuntime) -> Result<(), Fail> {
     let whole = MINIMUM.len();
     assert_eq!(rt; read(rt.alloc(), &MINIMUM[..whole - 17]), malformed(19));
     assert_eq!(rt; read(rt.alloc(), &MINIMUM[..whole - 5]), malformed(19));
+    Ok(())
+}
+
+#[test]
+fn a_network_ends_before_other_lines(rt: HostRuntime) -> Result<(), Fail> {
+    let text =
+        b"crn 1 direct\nspecies 1\n\ninput S1\noutput S1\nreactions 1\n2 S1 -> 0\namount S1 2\n";
+    let lines = token_lines(rt.alloc(), text)?;
+    let (network, next) = read_network_lines(rt.alloc(), text, &lines)?;
+    assert_eq!(rt; (network.reaction_count(), next), (1, 6));
+    assert_eq!(rt; read(rt.alloc(), text), malformed(8));
     Ok(())
 }
