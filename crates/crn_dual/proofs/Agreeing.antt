@@ -9,12 +9,12 @@ use Rattle.crn_gates.specs.declared.Use.TheVariants.{Variable, Context}
 use Rattle.crn_gates.specs.declared.Copied.{Copied}
 use Rattle.crn_gates.specs.declared.Copied.TheVariants.{Both, Single}
 use Rattle.crn_gates.specs.Gates.{Built, Operand, OfPair, OfRail, factor_of, width_of, slot_species, stamped, leaf_table, add_table, sub_table, min_table, max_table, scale_table}
-use Rattle.crn_gates.specs.Terms.{Term, terms_from, terms_of}
+use Rattle.crn_gates.specs.Terms.{Term, terms_from, terms_of, nonzero}
 use Rattle.crn_gates.specs.Pairs.{rails_of_terms, rails_of_uses, operands_of, pair_after, copies_after}
 use Rattle.crn_formula.specs.Formulas.{Formula, Lin, Add, Sub, Scale, Min, Max}
 use Rattle.crn_dual.specs.Layout.{use_of, operand_for, uses_of_terms, uses_of, rails_of, copy_count, Laid, leaf, gate_of_one, gate_of_two, nodes}
 use Rattle.crn_dual.specs.Layout as layout
-use Rattle.crn_dual.specs.OnCopies.{nonzero, use_count, Made, pair_on_one, pair_on_two, choice_on_two, nodes_on}
+use Rattle.crn_dual.specs.OnCopies.{use_count, Made, pair_on_one, pair_on_two, choice_on_two, nodes_on}
 use Rattle.crn_dual.proofs.Leaves.{by_column}
 use Rattle.crn_dual.proofs.Laying.{length-rails}
 

@@ -17,7 +17,8 @@ use Rattle.crn_gates.specs.Calls.{AreAbove, Moves}
 use Rattle.crn_gates.proofs.BuildingLaws.{free_low, leaf_stamps, add_stamps, sub_stamps, min_stamps, max_stamps, scale_stamps}
 use Rattle.crn_gates.proofs.Factors.{factor_is}
 use Rattle.crn_formula.specs.Formulas.{Formula, Lin, Add, Sub, Scale, Min, Max}
-use Rattle.crn_dual.specs.OnCopies.{nonzero, use_count, terms_on, Made, leaf_on, nodes_on, second_on}
+use Rattle.crn_gates.specs.Terms.{nonzero}
+use Rattle.crn_dual.specs.OnCopies.{use_count, terms_on, Made, leaf_on, nodes_on, second_on}
 
 -- ---- lists of rails
 

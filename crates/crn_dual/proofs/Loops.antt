@@ -9,9 +9,8 @@ use Rattle.crn_fraction.specs.Rational.{ℚ, 0ℚ, is_zero_ℚ}
 use Rattle.crn_gates.specs.declared.Copied.{Copied}
 use Rattle.crn_gates.specs.declared.Use.{Use}
 use Rattle.crn_gates.specs.Gates.{factor_of}
-use Rattle.crn_gates.specs.Terms.{terms_from, terms_of}
+use Rattle.crn_gates.specs.Terms.{terms_from, terms_of, nonzero}
 use Rattle.crn_dual.specs.Layout.{use_of_column, uses_of_terms}
-use Rattle.crn_dual.specs.OnCopies.{nonzero}
 
 -- the test of a coefficient
 is_nonzero : (q : ℚ) → q ≢ 0ℚ → is_zero_ℚ q ≡ false

@@ -1,17 +1,14 @@
 -- The nodes of a formula on copies that were made, step by step as a builder makes them.
-use Rattle.std.specs.Prelude.{ℕ, ◌+◌, not, List, length, drop, filter}
+use Rattle.std.specs.Prelude.{ℕ, ◌+◌, List, length, drop}
 use Rattle.std.specs.List.{zip}
-use Rattle.crn_fraction.specs.Rational.{ℚ, is_zero_ℚ}
+use Rattle.crn_fraction.specs.Rational.{ℚ}
 use Rattle.crn_net.specs.Network.{Reaction}
 use Rattle.crn_gates.specs.declared.Pair.{Pair}
 use Rattle.crn_gates.specs.declared.Copied.{Copied}
 use Rattle.crn_gates.specs.Gates.{factor_of, Built, stamped, add_table, sub_table, min_table, max_table, scale_table, leaf_table}
+use Rattle.crn_gates.specs.Terms.{nonzero}
 use Rattle.crn_gates.specs.Pairs.{rails_of_pair, rails_of_pairs, rails_of_terms, operands_of, pair_after}
 use Rattle.crn_formula.specs.Formulas.{Formula, Lin, Add, Sub, Scale, Min, Max}
-
--- the coefficients of a form that are not 0
-abbrev pub nonzero : List ℚ → List ℚ
-nonzero form = filter (λ q. not (is_zero_ℚ q)) form
 
 -- how many copies the leaves of a formula take
 abbrev pub use_count : Formula → ℕ

@@ -7,12 +7,12 @@ ghost use Rattle.crn_net.specs.Limits.{IsValid};
 ghost use Rattle.crn_gates.specs.Building.{IsSound, AllFree};
 ghost use Rattle.crn_gates.specs.Pairs.{rails_of_copies};
 ghost use Rattle.crn_gates.specs.declared.BuildError.TheVariants.{TooLarge};
-ghost use Rattle.crn_gates.specs.Terms.{terms_of};
+ghost use Rattle.crn_gates.specs.Terms.{terms_of, nonzero};
 ghost use Rattle.crn_formula.specs.Views.{plain_of};
 ghost use Rattle.crn_dual.specs.Columns.{IsOverVariables, column_count};
 ghost use Rattle.crn_dual.specs.Computes.{Computes};
 ghost use Rattle.crn_dual.specs.Layout.{use_of_column, uses_of_terms, uses_of, layout};
-ghost use Rattle.crn_dual.specs.OnCopies.{nonzero, use_count, terms_on, nodes_on};
+ghost use Rattle.crn_dual.specs.OnCopies.{use_count, terms_on, nodes_on};
 
 use crn_formula::Formula;
 use crn_fraction::Frac;

@@ -1,9 +1,10 @@
 -- Gates one after another: a run that leaves the reactions of all without a reactant does so with those of the earlier ones.
-use Rattle.std.proofs.Common.{◌≡◌, ℕ, ◌+◌, ◌≤◌, List, [], ◌++◌, length, sym, refl, ◌∙◌, ap, ap₂, arith, length-append, append_assoc, append-nil}
+use Rattle.std.proofs.Common.{◌≡◌, ℕ, ◌+◌, ◌<◌, ◌≤◌, List, [], ◌++◌, length, sym, refl, ◌∙◌, ap, ap₂, arith, length-append, append_assoc, append-nil}
 use Rattle.crn_fraction.specs.Rational.{ℚ}
 use Rattle.crn_gates.proofs.GateLaws.{given_all-append}
 use Rattle.crn_gates.proofs.Stamping.{given_new}
-use Rattle.crn_gates.specs.Building.{GoesOn}
+use Rattle.crn_gates.specs.Building.{GoesOn, IsEmptyAfter}
+use Rattle.crn_gates.specs.Calls.{IsMade}
 use Rattle.crn_gates.specs.Gates.{Built, stamped, slot_species, renamed}
 use Rattle.crn_net.specs.Network.{Network, Reaction, IsNetwork, IsFeedForward, IsNotNegative, Run}
 use Rattle.crn_net.specs.declared.Flow.{Flow}
@@ -39,3 +40,11 @@ goes_before net b xs new t later gives a us c after =
       run = after.run;
       lack = λ q low high. after.lack q low (omega (arith, high, length-append b.reactions here));
     }
+
+-- what was made before a table is stamped stays
+pub made_before : (n : ℕ) (b : Built) (xs : List ℕ) (new : ℕ) (t : List Reaction) (Claim : List ℚ → (ℕ → ℚ) → Type 0) → EachGiven (λ i. length xs ≤ i) t → IsMade n b Claim → IsMade n (stamped xs new t b) Claim
+made_before n b xs new t Claim gives made net later a us c goes empty = made net _ a us c (goes_before net b xs new t later gives a us c goes) empty
+
+-- also where less was there at the beginning
+pub made_from : (k n : ℕ) (b : Built) (Claim : List ℚ → (ℕ → ℚ) → Type 0) → k ≤ n → IsMade n b Claim → IsMade k b Claim
+made_from k n b Claim l made net later a us c goes empty = made net later a us c goes (λ s h. empty s (omega arith))

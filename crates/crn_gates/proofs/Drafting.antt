@@ -3,12 +3,13 @@ use Rattle.std.proofs.Common.{◌≡◌, ℕ, zero, suc, ◌+◌, ◌<◌, ◌�
 use Rattle.crn_net.proofs.FeedForward.{feed_forward, are_reactions}
 use Rattle.crn_net.proofs.FewReactions.{few_reactions}
 use Rattle.crn_net.specs.Limits.{IsValid}
-use Rattle.crn_net.specs.Network.{Reaction, IsApart, AreDifferent, AreEnds, IsContext, IsFeedForward, input_species}
+use Rattle.crn_net.specs.Network.{Reaction, IsApart, AreDifferent, IsEnds, AreEnds, IsContext, IsNetwork, IsFeedForward, input_species}
 use Rattle.crn_net.specs.declared.Rails.{Rails}
 use Rattle.crn_net.specs.declared.Rails.TheVariants.{Dual, Direct}
 use Rattle.crn_net.specs.declared.Ends.{Ends}
-use Rattle.crn_net.specs.declared.Ends.TheVariants.{Pair}
-use Rattle.crn_gates.specs.Building.{AllFree}
+use Rattle.crn_net.specs.declared.Ends.TheVariants.{Pair, One}
+use Rattle.crn_gates.specs.Building.{IsSound, IsFree, AllFree}
+use Rattle.crn_gates.specs.Gates.{Built}
 use Rattle.crn_gates.specs.Drafts.{Draft, IsDraft, begun, width_before, inputs_after, inputs_of, context_of, network_of_draft}
 
 -- ---- the beginning
@@ -49,13 +50,12 @@ draft_kept rails k n context s rs low high e f g = subst IsDraft (sym (draft_of 
 pub inputs_seen : (rails : Rails) (k : ℕ) (items : List Ends) → items ≡ inputs_of rails k → items ≡ inputs_of rails (length items)
 inputs_seen rails k items e = e ∙ ap (inputs_of rails) (sym (ap length e ∙ length-inputs_after rails 0 k))
 
--- ---- the inputs of a dual network
+-- ---- the inputs
 
-module _ (top : ℕ) where
-  -- they are in range
-  dual_ends : (v k : ℕ) → v + v + (k + k) ≤ top → AreEnds Dual top (inputs_after Dual v k)
-  dual_ends v zero l = tt
-  dual_ends v (suc k) l = ((omega arith, omega arith, omega arith, omega arith, omega arith), dual_ends (suc v) k (omega arith))
+-- those of a dual network are in range
+dual_ends : (top v k : ℕ) → v + v + (k + k) ≤ top → AreEnds Dual top (inputs_after Dual v k)
+dual_ends top v zero l = tt
+dual_ends top v (suc k) l = ((omega arith, omega arith, omega arith, omega arith, omega arith), dual_ends top (suc v) k (omega arith))
 
 -- and after the species before them
 dual_apart : (v k x : ℕ) → x ≤ v + v → IsApart x (input_species (inputs_after Dual v k))
@@ -73,46 +73,78 @@ dual_past : (v k x : ℕ) → v + v + (k + k) < x → IsApart x (input_species (
 dual_past v zero x l = tt
 dual_past v (suc k) x l = (omega arith, (omega arith, dual_past (suc v) k x (omega arith)))
 
--- the context comes after them
-context_is : (k n : ℕ) (context : Bool) → width_before Dual k context ≤ n → IsContext n (inputs_of Dual k) (context_of Dual k context)
-context_is k n true l = (omega arith, l, dual_past 0 k (suc (k + k)) (omega arith))
-context_is k n false l = tt
+-- those of a direct network
+direct_ends : (top v k : ℕ) → v + k ≤ top → AreEnds Direct top (inputs_after Direct v k)
+direct_ends top v zero l = tt
+direct_ends top v (suc k) l = ((omega arith, omega arith), direct_ends top (suc v) k (omega arith))
 
-width_low : (k : ℕ) (context : Bool) → k + k ≤ width_before Dual k context
-width_low k true = omega arith
-width_low k false = omega arith
+direct_apart : (v k x : ℕ) → x ≤ v → IsApart x (input_species (inputs_after Direct v k))
+direct_apart v zero x l = tt
+direct_apart v (suc k) x l = (omega arith, direct_apart (suc v) k x (omega arith))
+
+direct_different : (v k : ℕ) → AreDifferent (input_species (inputs_after Direct v k))
+direct_different v zero = tt
+direct_different v (suc k) = (direct_apart (suc v) k (suc v) (omega arith), direct_different (suc v) k)
+
+pub direct_past : (v k x : ℕ) → v + k < x → IsApart x (input_species (inputs_after Direct v k))
+direct_past v zero x l = tt
+direct_past v (suc k) x l = (omega arith, direct_past (suc v) k x (omega arith))
+
+-- the inputs and the context of a network with so many species
+pub record AreInputs (rails : Rails) (k n : ℕ) (has_context : Bool) : Type 0 where
+  pub ends : AreEnds rails n (inputs_of rails k)
+  pub different : AreDifferent (input_species (inputs_of rails k))
+  pub context : IsContext n (inputs_of rails k) (context_of rails k has_context)
+
+pub are_inputs : (rails : Rails) (k n : ℕ) (context : Bool) → width_before rails k context ≤ n → AreInputs rails k n context
+are_inputs Dual k n true l = record { ends = dual_ends n 0 k (omega arith); different = dual_different 0 k; context = (omega arith, l, dual_past 0 k (suc (k + k)) (omega arith)) }
+are_inputs Dual k n false l = record { ends = dual_ends n 0 k (omega arith); different = dual_different 0 k; context = tt }
+are_inputs Direct k n true l = record { ends = direct_ends n 0 k (omega arith); different = direct_different 0 k; context = (omega arith, l, direct_past 0 k (suc k) (omega arith)) }
+are_inputs Direct k n false l = record { ends = direct_ends n 0 k (omega arith); different = direct_different 0 k; context = tt }
+
+some_before : (rails : Rails) (k : ℕ) (context : Bool) → 1 ≤ k → 1 ≤ width_before rails k context
+some_before Dual k true l = omega arith
+some_before Dual k false l = omega arith
+some_before Direct k true l = omega arith
+some_before Direct k false l = omega arith
 
 -- ---- the network
 
-module _ (d : Draft) (x y : ℕ) (it : IsDraft d) (dual : d.rails ≡ Dual) (free : AllFree d.built (x ∷ y ∷ [])) where
-  begins : width_before Dual d.variables d.context ≤ d.built.species
-  begins = subst (λ r. width_before r d.variables d.context ≤ d.built.species) dual it.begins
+-- a sound draft with an output is a network
+pub draft_is_network : (d : Draft) (e : Ends) → IsSound d.built → width_before d.rails d.variables d.context ≤ d.built.species → IsEnds d.rails d.built.species e → IsNetwork (network_of_draft d e)
+draft_is_network d e sound begins output =
+    let inputs : AreInputs d.rails d.variables d.built.species d.context = are_inputs d.rails d.variables d.built.species d.context begins in
+    record {
+      reactions = are_reactions (network_of_draft d e) sound.each;
+      inputs = inputs.ends;
+      different = inputs.different;
+      output = output;
+      context = inputs.context;
+    }
 
-  -- a draft with a free pair is a valid network
-  dual_valid : IsValid (network_of_draft (record d { rails = Dual }) (Pair x y))
-  dual_valid =
-      let low : d.variables + d.variables ≤ width_before Dual d.variables d.context = width_low d.variables d.context in
-      let long : length (inputs_of Dual d.variables) ≡ d.variables = length-inputs_after Dual 0 d.variables in
+module _ (d : Draft) (e : Ends) (it : IsDraft d) where
+  -- and within the limits
+  pub draft_valid : IsEnds d.rails d.built.species e → IsValid (network_of_draft d e)
+  draft_valid output =
       record {
-        network = record {
-          reactions = are_reactions (network_of_draft (record d { rails = Dual }) (Pair x y)) it.sound.each;
-          inputs = dual_ends d.built.species 0 d.variables (omega (arith, begins));
-          different = dual_different 0 d.variables;
-          output = (free.0.low, free.0.high, free.2.0.low, free.2.0.high, free.1.0);
-          context = context_is d.variables d.built.species d.context begins;
-        };
+        network = draft_is_network d e it.sound it.begins output;
         limits = record {
-          some_species = omega (arith, free.0.low, free.0.high);
+          some_species = omega (arith, it.begins, some_before d.rails d.variables d.context it.some_variable);
           few_species = it.few_species;
           few_reactions = omega (arith, few_reactions d.built.species d.built.reactions it.sound.feeds it.sound.each, it.few_species);
-          some_input = omega (arith, it.some_variable);
-          few_inputs = omega (arith, it.few_variables);
+          some_input = omega (arith, it.some_variable, length-inputs_after d.rails 0 d.variables);
+          few_inputs = omega (arith, it.few_variables, length-inputs_after d.rails 0 d.variables);
         };
       }
 
-  pub closes_valid : IsValid (network_of_draft d (Pair x y))
-  closes_valid = subst (λ r. IsValid (network_of_draft (record d { rails = r }) (Pair x y))) (sym dual) dual_valid
-
   -- that feeds forward
-  pub closes_forward : IsFeedForward (network_of_draft d (Pair x y))
-  closes_forward = feed_forward (network_of_draft d (Pair x y)) it.sound.feeds
+  pub closes_forward : IsFeedForward (network_of_draft d e)
+  closes_forward = feed_forward (network_of_draft d e) it.sound.feeds
+
+-- a free pair can be the output of a dual network
+pub pair_ends : (rails : Rails) (b : Built) (x y : ℕ) → rails ≡ Dual → AllFree b (x ∷ y ∷ []) → IsEnds rails b.species (Pair x y)
+pair_ends rails b x y dual free = subst (λ r. IsEnds r b.species (Pair x y)) (sym dual) (free.0.low, free.0.high, free.2.0.low, free.2.0.high, free.1.0)
+
+-- and a free rail that of a direct one
+pub rail_ends : (rails : Rails) (b : Built) (x : ℕ) → rails ≡ Direct → IsFree b x → IsEnds rails b.species (One x)
+rail_ends rails b x direct free = subst (λ r. IsEnds r b.species (One x)) (sym direct) (free.low, free.high)

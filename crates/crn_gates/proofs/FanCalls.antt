@@ -145,7 +145,7 @@ fan_spares : (rail s : ℕ) (gs : List Part) → (rail ≡ s → gs ≡ []) → 
 fan_spares rail s [] h = tt
 fan_spares rail s (g ∷ gs) h = (((λ e. absurd (cc (h e))), tt), tt)
 
-fans_spare : (rail j : ℕ) (rs : List ℕ) (n s : ℕ) → IsApart s rs → EachTaken (λ i. i ≢ s) (fans rail j rs n)
+pub fans_spare : (rail j : ℕ) (rs : List ℕ) (n s : ℕ) → IsApart s rs → EachTaken (λ i. i ≢ s) (fans rail j rs n)
 fans_spare rail zero rs n s h = tt
 fans_spare rail (suc j) rs n s h =
     EachTaken-append (λ i. i ≢ s) (fan rail (copies_of rail rs n)) _ (fan_spares rail s _ (λ e. ap (λ r. copies_of r rs n) e ∙ no_copies s rs n h)) (fans_spare (suc rail) j rs n s h)

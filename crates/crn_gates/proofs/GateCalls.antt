@@ -186,7 +186,7 @@ leaf_value g m n i ((q, Single r) ∷ ts) h =
     ap₂ (λ u v. u +ℚ v) (times_factor q _ ∙ ap (λ u. q *ℚ m u) k.0) (leaf_value g m n (suc i) ts k.1)
 
 -- the slots after the operands' are new species
-slot_after : (xs : List ℕ) (n j : ℕ) → slot_species xs n (length xs + j) ≡ suc (n + j)
+pub slot_after : (xs : List ℕ) (n j : ℕ) → slot_species xs n (length xs + j) ≡ suc (n + j)
 slot_after [] n j = let e : 0 + j ≡ j = omega arith in ap (λ k. suc (n + k)) e
 slot_after (x ∷ xs) n j = let e : suc (length xs) + j ≡ suc (length xs + j) = omega arith in ap (slot_species (x ∷ xs) n) e ∙ slot_after xs n j
 
@@ -270,7 +270,7 @@ module _ (y z : ℕ) (ts : List (ℚ × Copied)) (i : ℕ) (t : ℚ × Copied) (
 
 -- ---- two calls in turn
 
-apart_above : (n x : ℕ) (ys : List ℕ) → AreAtMost n ys → n < x → IsApart x ys
+pub apart_above : (n x : ℕ) (ys : List ℕ) → AreAtMost n ys → n < x → IsApart x ys
 apart_above n x [] h l = tt
 apart_above n x (y ∷ ys) h l = let low : y ≤ n = h.0 in (omega arith, apart_above n x ys h.1 l)
 

@@ -15,3 +15,5 @@ pub mod MinimumComputes
 pub mod GateCalls
 pub mod FanCalls
 pub mod Drafting
+pub mod RailCalls
+pub mod FreeRails

@@ -9,3 +9,5 @@ pub mod Pairs
 pub mod Drafts
 pub mod Calls
 pub mod Stamps
+pub mod Singles
+pub mod Computes

@@ -1,8 +1,9 @@
 //! Fan-out: each input, and the context, gives one of each of its copies.
-ghost use Rattle.std.specs.Prelude.{◌≡◌, ◌+◌, ◌<◌, ◌≤◌, length, Bool, IfOk, IfErr};
+ghost use Rattle.std.specs.Prelude.{◌≡◌, ◌+◌, ◌-◌, ◌<◌, ◌≤◌, length, Bool, IfOk, IfErr};
 ghost use Rattle.crn_net.specs.Views.{parts_of, reactions_of};
 ghost use Rattle.crn_gates.specs.FanOut as plain;
 ghost use Rattle.crn_gates.specs.Pairs.{rails_of_uses, use_width, copies_after, AreUses};
+ghost use Rattle.crn_gates.specs.Singles.{rails_after};
 ghost use Rattle.crn_gates.specs.declared.BuildError.TheVariants.{TooLarge};
 
 use crate::{BuildError, Copied, MOST_SPECIES, Pair, Rail, Use, with_new};
@@ -39,7 +40,7 @@ pub(crate) fn originals(
     alloc: Global,
     variables: usize,
     uses: &[Use],
-) -> Result<Vec<u32>, AllocError>
+) -> Result<Vec<usize>, AllocError>
     requires few { variables ≤ 8 }
     requires uses { (context : Bool) × AreUses variables context uses.now }
     ensures { IfOk result (λ v. v.items ≡ rails_of_uses variables uses.now) }
@@ -48,10 +49,10 @@ pub(crate) fn originals(
     for each in uses {
         match each {
             Use::Variable(number) => {
-                rails.push(2 * *number as u32 - 1)?;
-                rails.push(2 * *number as u32)?;
+                rails.push(2 * *number - 1)?;
+                rails.push(2 * *number)?;
             }
-            Use::Context => rails.push(2 * variables as u32 + 1)?,
+            Use::Context => rails.push(2 * variables + 1)?,
         }
     }
     Ok(rails)
@@ -84,11 +85,25 @@ pub(crate) fn copies(
     Ok(copies)
 }
 
+/// The rails of the species after those that are there, up to the last.
+pub(crate) fn rails_after(alloc: Global, species: u32, last: u32) -> Result<Vec<Rail>, AllocError>
+    requires { species ≤ last }
+    ensures { IfOk result (λ v. v.items ≡ rails_after species (last - species)) }
+{
+    let mut rails = Vec::with_capacity(alloc, (last - species) as usize)?;
+    for earlier in species..last {
+        rails.push(Rail {
+            species: earlier + 1,
+        })?;
+    }
+    Ok(rails)
+}
+
 /// A reaction for each species that has a copy, ascending.
 pub(crate) fn fan(
     alloc: Global,
     species: u32,
-    originals: &[u32],
+    originals: &[usize],
 ) -> Result<Vec<Reaction>, AllocError>
     requires { species + length originals.now ≤ MOST_SPECIES }
     ensures { IfOk result (λ v. reactions_of v.items ≡ plain.fans 1 species originals.now species) }
@@ -113,14 +128,14 @@ fn copies_of(
     alloc: Global,
     rail: u32,
     species: u32,
-    originals: &[u32],
+    originals: &[usize],
 ) -> Result<Vec<Part>, AllocError>
     requires { species + length originals.now ≤ MOST_SPECIES }
     ensures { IfOk result (λ v. parts_of v.items ≡ plain.copies_of rail originals.now species) }
 {
     let mut parts = Vec::new(alloc);
     for (index, original) in originals.iter().enumerate() {
-        if *original == rail {
+        if *original == rail as usize {
             parts.push(Part {
                 species: species + 1 + index as u32,
                 count: 1,

@@ -5,19 +5,20 @@
 //! the one that takes it: the network feeds forward, and each gate's value law holds whatever is built on it.
 #![tactic(auto)]
 
-ghost use Rattle.std.specs.Prelude.{◌≡◌, ◌≢◌, ◌+◌, ◌^◌, ◌<◌, ◌≤◌, ◌↔◌, ◌∷◌, ◌++◌, [], length, IsTrue, IfOk, IfErr, OnOk, IsErrOf, IsOkUnless};
+ghost use Rattle.std.specs.Prelude.{◌≡◌, ◌≢◌, suc, ◌+◌, ◌^◌, ◌<◌, ◌≤◌, ◌↔◌, ◌∷◌, ◌++◌, [], length, map, IsTrue, IfOk, IfErr, OnOk, IsErrOf, IsOkUnless};
 ghost use Rattle.std.specs.List.{All};
-ghost use Rattle.crn_fraction.specs.Rational.{0ℚ, ◌+ℚ◌, ◌-ℚ◌, ◌*ℚ◌, min_ℚ, max_ℚ};
-ghost use Rattle.crn_net.specs.Network.{IsFeedForward, amount};
+ghost use Rattle.crn_fraction.specs.Rational.{0ℚ, ◌+ℚ◌, ◌-ℚ◌, ◌*ℚ◌, ◌<ℚ◌, min_ℚ, max_ℚ};
+ghost use Rattle.crn_net.specs.Network.{IsEnds, IsFeedForward, amount};
 ghost use Rattle.crn_net.specs.Limits.{IsValid};
 ghost use Rattle.crn_net.specs.declared.Rails.TheVariants as kind;
 ghost use Rattle.crn_net.specs.declared.Ends.TheVariants as ends;
-ghost use Rattle.crn_gates.specs.Gates.{stamped, width_of, factor_of, add_table, sub_table, min_table, max_table, scale_table, leaf_table};
+ghost use Rattle.crn_gates.specs.Gates.{stamped, width_of, factor_of, add_table, sub_table, min_table, max_table, scale_table, leaf_table, leaf_one_table, min_one_table};
 ghost use Rattle.crn_gates.specs.FanOut.{fanned};
-ghost use Rattle.crn_gates.specs.Building.{IsSound, AllFree};
+ghost use Rattle.crn_gates.specs.Building.{IsSound, IsFree, AllFree};
 ghost use Rattle.crn_gates.specs.Stamps.{reactions_at};
 ghost use Rattle.crn_net.specs.Views.{natural, reactions_of};
 ghost use Rattle.crn_gates.specs.Pairs.{reactions_of_terms, rails_of_pair, rails_of_pairs, rails_of_copies, rails_of_terms, rails_of_uses, operands_of, pair_after, copies_after, value_of, value_of_factored, AreUses, AreCopies};
+ghost use Rattle.crn_gates.specs.Singles.{rails_of_singles, factors_of_singles, value_of_singles, reactions_of_singles, rails_after, ascending};
 ghost use Rattle.crn_gates.specs.Drafts.{begun, width_before, inputs_of as ends_of, network_of_draft};
 ghost use Rattle.crn_net.specs.declared.NetworkError.TheVariants as refusal;
 ghost use Rattle.crn_gates.specs.Calls.{Moves, IsMade};
@@ -25,8 +26,11 @@ ghost use Rattle.crn_gates.specs.declared.BuildError.TheVariants.{TooLarge, Memo
 
 use crn_fraction::Frac;
 use crn_net::{Ends, Network, NetworkError, Parts, Rails, Reaction};
-use fan::{copies, fan, originals, with_copies};
-use stamp::{ADD, Gate, MAX, MIN, NONE, Ratio, SUB, Slots, stamp, stamp_pair, stamp_single};
+use fan::{copies, fan, originals, rails_after, with_copies};
+use stamp::{
+    ADD, Gate, MAX, MIN, MIN_ONE, NONE, Ratio, SUB, Slots, stamp, stamp_pair, stamp_rail,
+    stamp_single,
+};
 use std::alloc::{AllocError, Global};
 use std::marker::Model;
 use thiserror::Error;
@@ -320,32 +324,110 @@ impl Builder {
         ensures valid { IfOk result IsValid }
         ensures feed_forward { IfOk result IsFeedForward }
     {
+        self.with_output(Ends::Pair(output.plus.species, output.minus.species))
+    }
+}
+
+// Networks of single rails.
+impl Builder {
+    /// A copy for each use, which is the number of a variable, in the order of uses.
+    pub fn fan_out_one(self, uses: &[usize]) -> Result<(Builder, Vec<Rail>), BuildError>
+        requires direct { self.rails ≡ kind.Direct }
+        requires first { self ≡ begun self.rails self.variables self.context }
+        requires uses { All (λ v. (1 ≤ v) × (v ≤ self.variables)) uses.now }
+        ensures network { IfOk result (λ r. r.0 ≡ record self { built = fanned self.built.species uses.now }) }
+        ensures copies { IfOk result (λ r. r.1.items ≡ rails_after self.built.species (length uses.now)) }
+        ensures rails { IfOk result (λ r. Moves self.built r.0.built uses.now r.1.items) }
+        ensures value { IfOk result (λ r. IsMade self.built.species r.0.built (λ a m. map m r.1.items ≡ map (amount a) uses.now)) }
+        ensures too_large { IsErrOf result TooLarge ↔ (MOST_SPECIES < self.built.species + length uses.now) }
+    {
         let Builder {
             alloc,
             rails,
             inputs,
             context,
             species,
-            reactions,
+            ..
         } = self;
-        let context = if context {
-            Some(2 * inputs.len() as u32 + 1)
-        } else {
-            None
-        };
-        let output = Ends::Pair(output.plus.species, output.minus.species);
-        let parts = Parts {
+        let last = with_new(species, uses.len())?;
+        let reactions = fan(alloc, species, uses)?;
+        let copies = rails_after(alloc, species, last)?;
+        let builder = Builder {
+            alloc,
             rails,
+            inputs,
+            context,
+            species: last,
+            reactions,
+        };
+        Ok((builder, copies))
+    }
+
+    /// The sum of the terms, each a positive factor times a rail.
+    pub fn leaf_one(self, terms: Vec<(Frac, Rail)>) -> Result<(Builder, Rail), BuildError>
+        requires factors { All (λ t. 0ℚ <ℚ t.0) terms.items }
+        requires free { AllFree self.built (rails_of_singles terms.items) }
+        ensures network { IfOk result (λ r. r.0 ≡ record self { built = stamped (rails_of_singles terms.items) 1 (leaf_one_table (factors_of_singles terms.items)) self.built }) }
+        ensures rail { IfOk result (λ r. r.1 ≡ suc self.built.species) }
+        ensures rails { IfOk result (λ r. Moves self.built r.0.built (rails_of_singles terms.items) (r.1 ∷ [])) }
+        ensures value { IfOk result (λ r. IsMade self.built.species r.0.built (λ _ m. m r.1 ≡ value_of_singles terms.items m)) }
+        ensures too_large { IsErrOf result TooLarge ↔ (MOST_SPECIES < self.built.species + 1) }
+    {
+        let Builder {
+            alloc,
+            rails,
+            inputs,
+            context,
+            species,
+            mut reactions,
+        } = self;
+        let species = with_new(species, 1)?;
+        stamp_singles(alloc, &terms, species, &mut reactions)?;
+        let builder = Builder {
+            alloc,
+            rails,
+            inputs,
+            context,
             species,
             reactions,
-            inputs,
-            output,
-            context,
         };
-        match Network::make(alloc, parts) {
-            Ok(network) => Ok(network),
-            Err(error) => Err(want_of_memory(error)),
-        }
+        Ok((builder, Rail { species }))
+    }
+
+    /// The lesser of two rails.
+    pub fn min_one(self, a: Rail, b: Rail) -> Result<(Builder, Rail), BuildError>
+        requires { AllFree self.built (a ∷ b ∷ []) }
+        ensures network { IfOk result (λ r. r.0 ≡ record self { built = stamped (ascending a b) 1 min_one_table self.built }) }
+        ensures rail { IfOk result (λ r. r.1 ≡ suc self.built.species) }
+        ensures rails { IfOk result (λ r. Moves self.built r.0.built (a ∷ b ∷ []) (r.1 ∷ [])) }
+        ensures value { IfOk result (λ r. IsMade self.built.species r.0.built (λ _ m. m r.1 ≡ min_ℚ (m a) (m b))) }
+        ensures too_large { IsErrOf result TooLarge ↔ (MOST_SPECIES < self.built.species + 1) }
+    {
+        // The slots of a table's sides ascend, and so do the species in them.
+        let slots = Slots {
+            a: (a.species.min(b.species), 0),
+            b: (a.species.max(b.species), 0),
+            inner: NONE,
+            made: (self.species + 1, 0),
+        };
+        let builder = self.with_table(&MIN_ONE, slots, Ratio::ONE, 1)?;
+        Ok((
+            builder,
+            Rail {
+                species: slots.made.0,
+            },
+        ))
+    }
+
+    /// The network, with this rail as its output. It feeds forward.
+    pub fn close_one(self, output: Rail) -> Result<Network, AllocError>
+        requires direct { self.rails ≡ kind.Direct }
+        requires free { IsFree self.built output }
+        ensures network { IfOk result (λ n. n ≡ network_of_draft self (ends.One output)) }
+        ensures valid { IfOk result IsValid }
+        ensures feed_forward { IfOk result IsFeedForward }
+    {
+        self.with_output(Ends::One(output.species))
     }
 }
 
@@ -363,6 +445,22 @@ impl Builder {
         ensures pair { IfOk result (λ r. r.1 ≡ record { plus = slots.made.0; minus = slots.made.1 }) }
         ensures too_large { IsErrOf result TooLarge ↔ (MOST_SPECIES < self.built.species + new) }
     {
+        let builder = self.with_table(gate, slots, ratio, new)?;
+        Ok((builder, Pair::of(slots.made)))
+    }
+
+    // The network with a table stamped on the slots.
+    fn with_table<const R: usize>(
+        self,
+        gate: &Gate<R>,
+        slots: Slots,
+        ratio: Ratio,
+        new: usize,
+    ) -> Result<Builder, BuildError>
+        requires sound { IsSound (record { species = self.built.species + new; reactions = self.built.reactions ++ reactions_at (natural ratio.numerator) (natural ratio.denominator) slots gate.now.rows }) }
+        ensures network { IfOk result (λ b. b ≡ record self { built = record { species = self.built.species + new; reactions = self.built.reactions ++ reactions_at (natural ratio.numerator) (natural ratio.denominator) slots gate.now.rows } }) }
+        ensures too_large { IsErrOf result TooLarge ↔ (MOST_SPECIES < self.built.species + new) }
+    {
         let Builder {
             alloc,
             rails,
@@ -373,15 +471,48 @@ impl Builder {
         } = self;
         let species = with_new(species, new)?;
         stamp(alloc, gate, slots, ratio, &mut reactions)?;
-        let builder = Builder {
+        Ok(Builder {
             alloc,
             rails,
             inputs,
             context,
             species,
             reactions,
+        })
+    }
+
+    // The network with this output.
+    fn with_output(self, output: Ends) -> Result<Network, AllocError>
+        requires { IsEnds self.rails self.built.species output }
+        ensures network { IfOk result (λ n. n ≡ network_of_draft self output) }
+        ensures valid { IfOk result IsValid }
+        ensures feed_forward { IfOk result IsFeedForward }
+    {
+        let Builder {
+            alloc,
+            rails,
+            inputs,
+            context,
+            species,
+            reactions,
+        } = self;
+        let context = if context {
+            Some(first_species(rails, inputs.len(), true))
+        } else {
+            None
         };
-        Ok((builder, Pair::of(slots.made)))
+        let parts = Parts {
+            rails,
+            species,
+            reactions,
+            inputs,
+            output,
+            context,
+        };
+        match Network::make(alloc, parts) {
+            Ok(network) => Ok(network),
+            Err(error) => Err(want_of_memory(error)),
+        }
     }
 }
 
@@ -416,6 +547,22 @@ fn stamp_terms(
             Copied::Both(pair) => stamp_pair(alloc, *factor, pair.species(), made, reactions)?,
             Copied::Single(rail) => stamp_single(alloc, *factor, rail.species, made, reactions)?,
         }
+    }
+    Ok(())
+}
+
+// Writes terms, each a positive factor times a rail, into a rail.
+fn stamp_singles(
+    alloc: Global,
+    terms: &[(Frac, Rail)],
+    made: u32,
+    reactions: &mut Vec<Reaction>,
+) -> Result<(), AllocError>
+    requires { All (λ t. 0ℚ <ℚ t.0) terms.now }
+    ensures { OnOk result (reactions_of reactions.new.items ≡ reactions_of reactions.old.items ++ reactions_of_singles made terms.now) }
+{
+    for (factor, rail) in terms {
+        stamp_rail(alloc, *factor, rail.species, made, reactions)?;
     }
     Ok(())
 }

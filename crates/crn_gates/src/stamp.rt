@@ -1,6 +1,6 @@
 //! Constant tables of reactions over named slots, and how they are written into a network.
-ghost use Rattle.std.specs.Prelude.{◌≡◌, ◌++◌, ◌<◌, ◌≤◌, ◌^◌, pos, unsigned_abs, IfOk, OnOk, IsTrue};
-ghost use Rattle.crn_gates.specs.Gates.{factor_of, transfer, transfer_single};
+ghost use Rattle.std.specs.Prelude.{◌≡◌, ◌++◌, ◌<◌, ◌≤◌, ◌^◌, pos, ◌<ℤ◌, unsigned_abs, IfOk, OnOk, IsTrue};
+ghost use Rattle.crn_gates.specs.Gates.{factor_of, transfer, transfer_single, transfer_one};
 ghost use Rattle.crn_net.specs.Views.{natural, part_of, parts_of, reactions_of};
 ghost use Rattle.crn_gates.specs.Stamps.{species_at, number_of, part_at, side_at, reactions_at, is_in_order};
 
@@ -162,6 +162,11 @@ pub(crate) const MAX: Gate<5> = gate! {
     [P + Q] => [YMinus],
 };
 
+// The lesser of two single rails, each the plus of its pair.
+pub(crate) const MIN_ONE: Gate<1> = gate! {
+    [APlus + BPlus] => [YPlus],
+};
+
 // Anything times 0.
 pub(crate) const NOTHING: Gate<0> = gate! {};
 
@@ -296,4 +301,24 @@ pub(crate) fn stamp_single(
         made,
     };
     of_sign!(factor: SINGLE_UP, SINGLE_DOWN; alloc, slots, reactions)
+}
+
+/// Writes a single rail times a positive factor into a single rail.
+pub(crate) fn stamp_rail(
+    alloc: Global,
+    factor: Frac,
+    a: u32,
+    made: u32,
+    reactions: &mut Vec<Reaction>,
+) -> Result<(), AllocError>
+    requires { pos 0 <ℤ factor.num }
+    ensures { OnOk result (reactions_of reactions.new.items ≡ reactions_of reactions.old.items ++ transfer_one (factor_of factor) a made) }
+{
+    let slots = Slots {
+        a: (a, 0),
+        b: NONE,
+        inner: NONE,
+        made: (made, 0),
+    };
+    stamp(alloc, &SINGLE_UP, slots, Ratio::of(factor), reactions)
 }

@@ -66,3 +66,37 @@ fn the_maximum_with_a_constant(rt: HostRuntime) -> Result<(), Fail> {
     assert!(rt; are_reactions(&network, &wanted));
     Ok(())
 }
+
+/// The least of 2x1 + x2 and 3x2, call by call. The species of the second form is the left operand of the minimum, and has the greater number.
+#[test]
+fn the_least_of_two_forms(rt: HostRuntime) -> Result<(), Fail> {
+    let builder = Builder::new(rt.alloc(), Rails::Direct, 2, false)?;
+    let (builder, mut copies) = builder.fan_out_one(&[1, 2, 2])?;
+    let second_of_x2 = copies.pop().expect(&rt, "a copy for the second form");
+    let first_of_x2 = copies.pop().expect(&rt, "a copy for the first form");
+    let first_of_x1 = copies.pop().expect(&rt, "a copy for the first form");
+    let one = Frac::of(1, 1)?;
+    let two = Frac::of(2, 1)?;
+    let three = Frac::of(3, 1)?;
+    assert!(rt; one.num() > 0);
+    assert!(rt; two.num() > 0);
+    assert!(rt; three.num() > 0);
+    let terms = vec![in rt.alloc(); (two, first_of_x1), (one, first_of_x2)]?;
+    let (builder, first) = builder.leaf_one(terms)?;
+    let (builder, second) = builder.leaf_one(vec![in rt.alloc(); (three, second_of_x2)]?)?;
+    let (builder, least) = builder.min_one(second, first)?;
+    let network = builder.close_one(least)?;
+    assert_eq!(rt; network.species(), 8);
+    assert!(rt; network.inputs() == [Ends::One(1), Ends::One(2)].as_slice());
+    assert!(rt; network.output() == Ends::One(8));
+    let wanted: [(Side, Side); 6] = [
+        (&[(1, 1)], &[(3, 1)]),
+        (&[(2, 1)], &[(4, 1), (5, 1)]),
+        (&[(3, 1)], &[(6, 2)]),
+        (&[(4, 1)], &[(6, 1)]),
+        (&[(5, 1)], &[(7, 3)]),
+        (&[(6, 1), (7, 1)], &[(8, 1)]),
+    ];
+    assert!(rt; are_reactions(&network, &wanted));
+    Ok(())
+}

@@ -1,7 +1,7 @@
 use Rattle.std.proofs.Common.{◌≡◌, length, take, drop}
 use Rattle.std.specs.List.{zip}
 use Rattle.std.specs.Vec.Iter.{into_iter_items}
-use Rattle.crn_dual.specs.OnCopies.{nonzero}
+use Rattle.crn_gates.specs.Terms.{nonzero}
 use Rattle.crn_dual.proofs.compile.terms_on.Given as goal
 
 -- the terms so far are those of the first columns
