@@ -1,0 +1,6 @@
+pub mod Leaves
+pub mod Laying
+pub mod LayoutLaws
+pub mod Sizes
+pub mod Loops
+pub mod Compiling
