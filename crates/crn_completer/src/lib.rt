@@ -144,7 +144,8 @@ fn flow_of(number: u32, flux: Frac) -> Flow
     }
 }
 
-fn lacks_reactant(reaction: &Reaction, state: &State) -> bool
+/// Whether some reactant has the amount 0.
+pub fn lacks_reactant(reaction: &Reaction, state: &State) -> bool
     requires { IsReaction (length state.now) (reaction_of reaction.now) }
     ensures { result ≡ lacks (amount state.now) (parts_of reaction.now.takes.items) }
 {
@@ -156,8 +157,8 @@ fn lacks_reactant(reaction: &Reaction, state: &State) -> bool
     false
 }
 
-// The least quotient of amount and count, or the species whose quotient does not fit.
-fn least_quotient(reaction: &Reaction, state: &State) -> Result<Frac, u32>
+/// The greatest flux that the reactants allow, which is the least quotient of amount and count, or the first species whose quotient does not fit.
+pub fn least_quotient(reaction: &Reaction, state: &State) -> Result<Frac, u32>
     requires { IsReaction (length state.now) (reaction_of reaction.now) }
     ensures fit { Answers result (unfit_quotient (amount state.now) (parts_of reaction.now.takes.items)) }
     ensures least { IfOk result (λ u. u ≡ greatest (parts_of reaction.now.takes.items) (amount state.now)) }
