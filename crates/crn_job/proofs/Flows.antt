@@ -3,15 +3,19 @@ use Rattle.std.proofs.Common.{◌≡◌, ℕ, zero, suc, ◌-◌, ◌<◌, ◌�
 use Rattle.std.proofs.lemmas.List.{drop-map, length-map}
 use Rattle.std.proofs.lemmas.Bool.{le-ltb}
 use Rattle.std.specs.Option.{option_map, option_and_then, option_map_or}
-use Rattle.crn_grammar.specs.Table.{Read, Limited}
+use Rattle.crn_grammar.specs.Table.{Answer, Read, Limited}
+use Rattle.crn_token.specs.declared.Counted.{Counted}
 use Rattle.crn_token.specs.declared.Counted.TheVariants as counted
 use Rattle.crn_net.specs.declared.Flow.{Flow}
 use Rattle.crn_token.specs.declared.Token.{Token}
 use Rattle.crn_token.specs.Plain.{Plain, plain_token}
 use Rattle.crn_segments.specs.Flows.{IsSegment}
-use Rattle.crn_job.specs.Grammar.{Tail, reaction_at, flow_to, flow_at, amounts_of, numbers_of, with_input, with_segment, tail_follow, flows_of, is_segment, segment_of}
+use Rattle.crn_job.specs.Grammar.{Tail, reaction_at, flow_to, flow_at, amounts_of, numbers_of, with_input, with_segments, segments_with, segments_limit, tail_follow, tail_limit, flows_of, is_segment, segment_of}
 use Rattle.crn_job.specs.declared.words.Word.TheVariants as word
-use Rattle.crn_job.specs.Reading.{judged}
+use Rattle.crn_job.specs.declared.JobError.{JobError}
+use Rattle.crn_job.specs.declared.JobError.TheVariants as error
+use Rattle.crn_job.specs.Followed.{answer_map}
+use Rattle.crn_job.specs.Reading.{judged, Refuses}
 use Rattle.crn_job.proofs.Segments.{segment_is, is_segment_of}
 
 -- what follows the first flow
@@ -67,18 +71,37 @@ pub no_flows : (ts : List Plain) → None ≡ flows_of (length ts) ts → None �
 no_flows ts none = ap (option_and_then if_segment) none
 
 -- a segment or an input more passes no limit
-pub judged_few : (number : ℕ) (t : Tail) → length t.segments ≤ 10000 → judged number (Some t) ≡ Read t
-judged_few number t few = ap (λ b. option_map_or (λ what. Limited what) (cond b (Some (counted.Segments, length t.segments)) None) (Read t)) (le-ltb 10000 (length t.segments) few)
+pub few_segments : (us : List (List Flow)) → length us ≤ 10000 → segments_limit us ≡ None
+few_segments us few = ap (λ b. cond b (Some (counted.Segments, length us)) None) (le-ltb 10000 (length us) few)
 
-pub judged_many : (number : ℕ) (t : Tail) → 10000 < length t.segments → judged number (Some t) ≡ Limited (counted.Segments, length t.segments)
-judged_many number t many = ap (λ b. option_map_or (λ what. Limited what) (cond b (Some (counted.Segments, length t.segments)) None) (Read t)) (lt-ltb 10000 (length t.segments) many)
+pub many_segments : (us : List (List Flow)) → 10000 < length us → segments_limit us ≡ Some (counted.Segments, length us)
+many_segments us many = ap (λ b. cond b (Some (counted.Segments, length us)) None) (lt-ltb 10000 (length us) many)
+
+pub judged_few : (number : ℕ) (t : Tail) → length t.segments ≤ 10000 → judged tail_limit number (Some t) ≡ Read t
+judged_few number t few = ap (λ l. option_map_or (λ what. Limited what) l (Read t)) (few_segments t.segments few)
+
+-- the answer to a segment line is that to its segments
+pub judged_segments : {S : Type 0} (limit : S → Option (Counted × ℕ)) (number : ℕ) (f : List (List Flow) → S) (o : Option (List (List Flow))) → ((us : List (List Flow)) → limit (f us) ≡ segments_limit us)
+    → judged limit number (option_map f o) ≡ answer_map f (judged segments_limit number o)
+judged_segments limit number f None same = refl
+judged_segments limit number f (Some us) same = ap (λ l. option_map_or (λ what. Limited what) l (Read (f us))) (same us) ∙ go (segments_limit us)
+  where
+    go : (l : Option (Counted × ℕ)) → option_map_or (λ what. Limited what) l (Read (f us)) ≡ answer_map f (option_map_or (λ what. Limited what) l (Read us))
+    go None = refl
+    go (Some what) = refl
+
+-- a refused segment line is refused with what it belongs to
+pub refused_with : {V G : Type 0} (value : V → G) (e : JobError) (a : Answer V (Counted × ℕ)) → Refuses e a → Refuses e (answer_map value a)
+refused_with value (error.Malformed n) a is = ap (answer_map value) is
+refused_with value (error.Limit what count) a is = ap (answer_map value) is
+refused_with value error.Memory a is = tt
 
 -- an input line while one is to come, and a segment line after the last
 pub follow_input : (t : Tail) (left : ℕ) (ts : List Plain) → 0 < left → tail_follow t left word.Input ts ≡ option_map (λ qs. with_input t (left - 1) qs) (numbers_of (amounts_of t.rails) ts)
 follow_input t zero ts some = absurd (omega arith)
 follow_input t (suc n) ts some = let e : n ≡ suc n - 1 = omega arith in ap (λ m. option_map (λ qs. with_input t m qs) (numbers_of (amounts_of t.rails) ts)) e
 
-pub follow_segment : (t : Tail) (left : ℕ) (ts : List Plain) → left ≤ 0 → tail_follow t left word.Segment ts ≡ option_map (λ u. with_segment t u) (segment_of ts)
+pub follow_segment : (t : Tail) (left : ℕ) (ts : List Plain) → left ≤ 0 → tail_follow t left word.Segment ts ≡ option_map (λ us. with_segments t us) (segments_with t.segments ts)
 follow_segment t zero ts none = refl
 follow_segment t (suc n) ts none = absurd (omega arith)
 

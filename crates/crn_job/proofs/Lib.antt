@@ -1,5 +1,10 @@
 pub mod Segments
 pub mod Numbers
 pub mod Flows
+pub mod LineLaws
 pub mod TailSteps
+pub mod States
+pub mod RunSteps
+pub mod FollowedLaws
 pub mod JobLaws
+pub mod RunLaws

@@ -6,8 +6,8 @@ use Rattle.crn_token.specs.declared.Sign.TheVariants.{Colon}
 use Rattle.crn_token.specs.declared.Counted.{Counted}
 use Rattle.crn_token.specs.declared.Counted.TheVariants as counted
 use Rattle.crn_token.specs.Plain.{Plain, PlainLine, PlainNumber, PlainSign, plain_lines}
-use Rattle.crn_grammar.specs.Table.{Table, Answer, Read, Malformed, Limited, answer}
-use Rattle.crn_grammar.specs.Part.{Either, joined_table}
+use Rattle.crn_grammar.specs.Table.{Table, Answer, answer}
+use Rattle.crn_grammar.specs.Part.{Either}
 use Rattle.crn_formula.specs.Functions.{Kind, ByFormula, ByPieces, ByLeast}
 use Rattle.crn_form_text.specs.Reading.{fraction_at}
 use Rattle.crn_function_text.specs.Words.{rest_of, says}
@@ -19,6 +19,7 @@ use Rattle.crn_segments.specs.Signs.{is_positive_ℚ}
 use Rattle.crn_job.specs.declared.words.Word.{Word}
 use Rattle.crn_job.specs.declared.words.Word.TheVariants as word
 use Rattle.crn_job.specs.Words.{first_word}
+use Rattle.crn_job.specs.Followed.{Following, followed_table}
 
 -- ---- what stands after the first word of a line
 
@@ -64,6 +65,27 @@ is_segment (f ∷ fs) = ascend 0 (f ∷ fs)
 abbrev pub segment_of : List Plain → Option (List Flow)
 segment_of tokens = option_and_then (λ fs. if is_segment fs then Some fs else None) (flows_of (length tokens) tokens)
 
+-- the number that is all the tokens
+abbrev pub alone : ℚ → List Plain → Option ℚ
+alone q [] = Some q
+alone q (token ∷ tokens) = None
+
+abbrev pub number_of : List Plain → Option ℚ
+number_of tokens = option_and_then (λ p. alone p.0 (drop p.1 tokens)) (fraction_at tokens)
+
+-- ---- segment lines
+
+-- these segments, and the one of a line more
+abbrev pub segments_with : List (List Flow) → List Plain → Option (List (List Flow))
+segments_with us tokens = option_map (λ u. us ++ u ∷ []) (segment_of tokens)
+
+-- the limit of segments
+abbrev pub most_segments : ℕ
+most_segments = 10000
+
+abbrev pub segments_limit : List (List Flow) → Option (Counted × ℕ)
+segments_limit us = above most_segments counted.Segments (length us)
+
 -- ---- the lines after a function part
 
 -- how many numbers an input line has: plus and minus, or one
@@ -84,13 +106,13 @@ tail_start rails inputs = record { rails = rails; left = inputs; amounts = []; s
 abbrev pub with_input : Tail → ℕ → List ℚ → Tail
 with_input tail left amounts = record { rails = tail.rails; left = left; amounts = tail.amounts ++ amounts; segments = tail.segments }
 
-abbrev pub with_segment : Tail → List Flow → Tail
-with_segment tail segment = record { rails = tail.rails; left = tail.left; amounts = tail.amounts; segments = tail.segments ++ segment ∷ [] }
+abbrev pub with_segments : Tail → List (List Flow) → Tail
+with_segments tail segments = record { rails = tail.rails; left = tail.left; amounts = tail.amounts; segments = segments }
 
 -- an `input` line while one is to come, and then `segment` lines
 abbrev pub tail_follow : Tail → ℕ → Word → List Plain → Option Tail
 tail_follow tail (suc n) word.Input rest = option_map (λ qs. with_input tail n qs) (numbers_of (amounts_of tail.rails) rest)
-tail_follow tail zero word.Segment rest = option_map (λ u. with_segment tail u) (segment_of rest)
+tail_follow tail zero word.Segment rest = option_map (λ us. with_segments tail us) (segments_with tail.segments rest)
 tail_follow tail _ _ rest = None
 
 abbrev pub tail_next : Tail → PlainLine → Option Tail
@@ -110,7 +132,7 @@ abbrev pub tail_whole : Tail → Option TailValue
 tail_whole tail = value_at tail.left tail
 
 abbrev pub tail_limit : Tail → Option (Counted × ℕ)
-tail_limit tail = above 10000 counted.Segments (length tail.segments)
+tail_limit tail = segments_limit tail.segments
 
 abbrev pub tail_table : Rails → ℕ → Table Tail PlainLine TailValue (Counted × ℕ)
 tail_table rails inputs = record { start = tail_start rails inputs; next = tail_next; whole = tail_whole; limit = tail_limit }
@@ -128,32 +150,19 @@ rails_of (ByFormula e) = Dual
 rails_of (ByPieces pieces) = Dual
 rails_of (ByLeast forms) = Direct
 
--- a place after the function part
-pub record AfterFunction : Type 0 where
-  pub function : PlainFunction
-  pub tail : Tail
-
-abbrev pub JobPlace : Type 0
-JobPlace = Either Place AfterFunction
-
-abbrev pub after_function : PlainFunction → AfterFunction
-after_function f = record { function = f; tail = tail_start (rails_of f.kind) f.variables }
-
-abbrev pub job_next : AfterFunction → PlainLine → Option AfterFunction
-job_next r line = option_map (λ t. record { function = r.function; tail = t }) (tail_next r.tail line)
-
 abbrev pub job_with : PlainFunction → TailValue → PlainJob
 job_with f v = record { function = f; amounts = v.amounts; segments = v.segments }
 
-abbrev pub job_whole : AfterFunction → Option PlainJob
-job_whole r = option_map (job_with r.function) (tail_whole r.tail)
+-- the lines after this function
+abbrev pub job_tail : PlainFunction → Table Tail PlainLine TailValue (Counted × ℕ)
+job_tail f = tail_table (rails_of f.kind) f.variables
 
-abbrev pub job_limit : AfterFunction → Option (Counted × ℕ)
-job_limit r = tail_limit r.tail
+abbrev pub JobPlace : Type 0
+JobPlace = Either Place (Following PlainFunction Tail)
 
 -- the grammar: a function part, and then an `input` line for each variable and `segment` lines
 abbrev pub job_table : Table JobPlace PlainLine PlainJob (Counted × ℕ)
-job_table = joined_table function_table goes_on after_function job_next job_whole job_limit
+job_table = followed_table function_table goes_on job_tail job_with
 
 -- how many amounts the inputs of a function have
 abbrev pub amount_count : PlainFunction → ℕ
@@ -166,9 +175,3 @@ job_answer bytes = answer job_table line_number (end_of bytes) job_table.start (
 -- the answer to the lines after a function part, from a line on that is counted from 0
 abbrev pub tail_answer : Rails → ℕ → List ℕ → ℕ → Answer TailValue (Counted × ℕ)
 tail_answer rails inputs bytes from = answer (tail_table rails inputs) line_number (end_of bytes) (tail_start rails inputs) (drop from (plain_lines bytes))
-
--- the answer to a text by the answer to the lines after its function part
-abbrev pub joined_answer : PlainFunction → Answer TailValue (Counted × ℕ) → Answer PlainJob (Counted × ℕ)
-joined_answer f (Read v) = Read (job_with f v)
-joined_answer f (Malformed n) = Malformed n
-joined_answer f (Limited what) = Limited what

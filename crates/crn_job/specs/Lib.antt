@@ -1,3 +1,5 @@
 pub mod Words
+pub mod Followed
 pub mod Grammar
+pub mod RunGrammar
 pub mod Reading

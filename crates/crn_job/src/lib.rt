@@ -1,4 +1,4 @@
-//! The text of jobs: a function, the amounts of its inputs, and segments.
+//! The text of jobs: a function, the amounts of its inputs, and segments; and of run jobs: a network, amounts of its species, and segments.
 #![tactic(auto)]
 
 ghost use Rattle.std.specs.Prelude.{◌≡◌, ◌≤◌, ◌*◌, length, vec_len, IfOk};
@@ -9,23 +9,28 @@ ghost use Rattle.crn_grammar.specs.Table as table;
 ghost use Rattle.crn_formula.specs.Domains.{domain_for};
 ghost use Rattle.crn_formula.specs.Views.{kind_of};
 ghost use Rattle.crn_function_text.specs.Grammar.{line_number, end_of};
-ghost use Rattle.crn_net.specs.Network.{AreNotNegative};
+ghost use Rattle.crn_net.specs.Network.{AreNotNegative, IsNotNegative, IsState};
 ghost use Rattle.crn_function_text.specs.Reading.{function_of};
-ghost use Rattle.crn_job.specs.Grammar.{PlainJob, job_table, job_answer, tail_answer, joined_answer, rails_of, amounts_of, amount_count};
-ghost use Rattle.crn_job.specs.Reading.{Gives, IsRight, value_of, job_of, refused};
+ghost use Rattle.crn_job.specs.Followed.{answer_map};
+ghost use Rattle.crn_job.specs.Grammar.{PlainJob, job_table, job_answer, job_with, tail_answer, rails_of, amounts_of, amount_count};
+ghost use Rattle.crn_job.specs.RunGrammar.{PlainRunJob, run_table, run_answer, run_with, run_tail_answer};
+ghost use Rattle.crn_job.specs.Reading.{Gives, IsRight, BeginsWithNetwork, value_of, job_of, run_value_of, run_job_of, refused, network_refused};
 
 use crn_formula::{Function, FunctionKind};
 use crn_fraction::Frac;
 use crn_function_text::{FunctionTextError, read_function_lines};
-use crn_net::Rails;
-use crn_segments::Segment;
+use crn_net::{Network, Rails};
+use crn_net_text::{NetTextError, read_network_lines};
+use crn_segments::{Segment, State};
 use crn_token::{Counted, Lines, token_lines};
+use run_tail::RunTail;
 use std::alloc::{AllocError, AllocFailed, Global};
 use tail::Tail;
 use thiserror::Error;
 use words::{first_word, rest_of, tokens_of};
 
 pub mod laws;
+mod run_tail;
 mod tail;
 mod words;
 
@@ -69,6 +74,15 @@ pub struct Job {
     pub function: Function,
     /// The amounts of the input lines from left to right.
     pub amounts: Vec<Frac>,
+    pub segments: Vec<Segment>,
+}
+
+/// A network, the state that its run begins at, and segments.
+#[derive(Debug, Drop)]
+pub struct RunJob {
+    pub network: Network,
+    /// An amount of each species, 0 where the text has none.
+    pub state: State,
     pub segments: Vec<Segment>,
 }
 
@@ -159,7 +173,7 @@ fn read_rest(
 ) -> Result<Job, JobError>
     requires lines { AreLinesOf bytes.now lines.now }
     requires from { from ≤ vec_len lines.now.lines }
-    ensures answer { Gives job_of result (joined_answer (function_of function) (tail_answer (rails_of (kind_of function.kind)) function.variables bytes.now from)) }
+    ensures answer { Gives job_of result (answer_map (job_with (function_of function)) (tail_answer (rails_of (kind_of function.kind)) function.variables bytes.now from)) }
     ensures function { IfOk result (λ j. j.function ≡ function) }
     ensures amounts { IfOk result (λ j. (length j.amounts.items ≡ amount_count (function_of function)) × AreNotNegative j.amounts.items) }
 {
@@ -173,6 +187,95 @@ fn read_rest(
         }),
         Err(error) => Err(error),
     }
+}
+
+/// The run job of a text: a network part, then `amount` lines with strictly ascending species, and then `segment` lines. A species without a
+/// line has the amount 0, the context too.
+pub fn read_run_job(alloc: Global, bytes: &[u8]) -> Result<RunJob, JobError>
+    // Each answer is the right one: the run job of the text, the malformed line, or the first limit that is passed.
+    ensures answer { IsRight run_job_of result (IsAnswer run_table line_number (end_of bytes.now) (plain_lines bytes.now)) }
+    // A text that passes no limit is read.
+    ensures read { (job : PlainRunJob) → IsText run_table (plain_lines bytes.now) job → PassesNone run_table (plain_lines bytes.now)
+        → Gives run_job_of result (table.Read job) }
+    ensures network { IfOk result (λ j. BeginsWithNetwork bytes.now j.network) }
+    ensures state { IfOk result (λ j. IsState j.network j.state) }
+{
+    read_run_text(alloc, bytes)
+}
+
+// The run job of a text, line by line.
+fn read_run_text(alloc: Global, bytes: &[u8]) -> Result<RunJob, JobError>
+    ensures answer { Gives run_job_of result (run_answer bytes.now) }
+    ensures network { IfOk result (λ j. BeginsWithNetwork bytes.now j.network) }
+    ensures state { IfOk result (λ j. IsState j.network j.state) }
+{
+    let lines = token_lines(alloc, bytes)?;
+    match read_network_lines(alloc, bytes, &lines) {
+        Ok((network, next)) => read_run_rest(alloc, bytes, &lines, network, next),
+        Err(error) => Err(network_refused(error)),
+    }
+}
+
+// The refusal of a run job whose network part is refused so.
+fn network_refused(error: NetTextError) -> JobError
+    ensures { result ≡ network_refused error }
+{
+    match error {
+        NetTextError::Malformed { line } => JobError::Malformed { line },
+        NetTextError::Limit { what, count } => JobError::Limit { what, count },
+        NetTextError::Memory => JobError::Memory,
+    }
+}
+
+// The run job of this network and the lines after it.
+fn read_run_rest(
+    alloc: Global,
+    bytes: &[u8],
+    lines: &Lines,
+    network: Network,
+    from: usize,
+) -> Result<RunJob, JobError>
+    requires lines { AreLinesOf bytes.now lines.now }
+    requires from { from ≤ vec_len lines.now.lines }
+    ensures answer { Gives run_job_of result (answer_map (run_with network) (run_tail_answer network.species bytes.now from)) }
+    ensures network { IfOk result (λ j. j.network ≡ network) }
+    ensures state { IfOk result (λ j. IsState network j.state) }
+{
+    let species = network.species();
+    match read_run_tail(alloc, bytes, lines, from, species) {
+        Ok((state, segments)) => Ok(RunJob {
+            network,
+            state,
+            segments,
+        }),
+        Err(error) => Err(error),
+    }
+}
+
+// The state of so many species and the segments, from the line with the index `from` to the end.
+fn read_run_tail(
+    alloc: Global,
+    bytes: &[u8],
+    lines: &Lines,
+    from: usize,
+    species: u32,
+) -> Result<(State, Vec<Segment>), JobError>
+    requires lines { AreLinesOf bytes.now lines.now }
+    requires from { from ≤ vec_len lines.now.lines }
+    ensures answer { Gives run_value_of result (run_tail_answer species bytes.now from) }
+    ensures state { IfOk result (λ r. (length r.0 ≡ species) × IsNotNegative r.0) }
+{
+    let mut tail = RunTail::new(alloc, species)?;
+    for index in from..lines.lines.len() {
+        let line = &lines.lines[index];
+        let tokens = tokens_of(line);
+        let word = first_word(bytes, tokens);
+        match tail.after(alloc, bytes, line.number, word, rest_of(tokens)) {
+            Ok(next) => tail = next,
+            Err(error) => return Err(error),
+        }
+    }
+    Ok(tail.value())
 }
 
 #[cfg(test)]

@@ -2,10 +2,11 @@
 
 ghost use Rattle.std.specs.Prelude.{ℕ, List, [], ◌∷◌, ◌+◌, Some, None, ◌≡◌, ◌<◌, ◌≤◌, ◌-◌, map, length, drop, IfOk, IfSome};
 ghost use Rattle.std.specs.Option.{option_map, option_map_or};
+ghost use Rattle.crn_fraction.specs.Rational.{0ℚ, ◌≤ℚ◌};
 ghost use Rattle.crn_grammar.specs.Table as table;
 ghost use Rattle.crn_token.specs.Plain.{plain_token};
 ghost use Rattle.crn_job.specs.Grammar as grammar;
-ghost use Rattle.crn_job.specs.Grammar.{numbers_of, reaction_at, flow_to, flow_at, flows_of, segment_of, tail_start};
+ghost use Rattle.crn_job.specs.Grammar.{numbers_of, reaction_at, flow_to, flow_at, flows_of, segment_of, number_of, segments_with, segments_limit, tail_start};
 ghost use Rattle.crn_job.specs.Reading.{judged, Gives, value_of};
 
 use crate::JobError;
@@ -26,9 +27,13 @@ pub struct Tail {
     segments: Vec<Segment>,
 }
 
-// The number of all the tokens.
-fn one_number(tokens: &[Token]) -> Option<Frac>
-    ensures { (bytes : List ℕ) → option_map (λ q. q ∷ []) result ≡ numbers_of 1 (map (plain_token bytes) tokens.now) }
+/// The greatest number of segments of a job.
+pub const MOST_SEGMENTS: usize = 10_000;
+
+/// The number that is all the tokens.
+pub fn one_number(tokens: &[Token]) -> Option<Frac>
+    ensures value { (bytes : List ℕ) → result ≡ number_of (map (plain_token bytes) tokens.now) }
+    ensures not_negative { IfSome result (λ q. 0ℚ ≤ℚ q) }
 {
     match read_fraction(tokens) {
         Some((number, taken)) => {
@@ -55,8 +60,8 @@ fn two_numbers(tokens: &[Token]) -> Option<(Frac, Frac)>
     }
 }
 
-// The tokens after so many.
-fn after(tokens: &[Token], count: usize) -> &[Token]
+/// The tokens after so many.
+pub fn after(tokens: &[Token], count: usize) -> &[Token]
     ensures { result.now ≡ drop count tokens.now }
 {
     let (_, rest) = tokens.split_at(count.min(tokens.len()));
@@ -128,6 +133,32 @@ fn read_segment(alloc: Global, tokens: &[Token]) -> Result<Option<Segment>, Allo
     }
 }
 
+/// Adds the segment of one more line.
+pub fn push_segment(
+    alloc: Global,
+    segments: &mut Vec<Segment>,
+    line: usize,
+    rest: &[Token],
+) -> Result<(), JobError>
+    requires { length segments.old.items ≤ MOST_SEGMENTS }
+    ensures { (bytes : List ℕ) → Gives (λ done. segments.new.items) result (judged segments_limit line (segments_with segments.old.items (map (plain_token bytes) rest.now))) }
+{
+    match read_segment(alloc, rest)? {
+        Some(segment) => {
+            let count = segments.len() + 1;
+            if count > MOST_SEGMENTS {
+                return Err(JobError::Limit {
+                    what: Counted::Segments,
+                    count: count as u64,
+                });
+            }
+            segments.push(segment)?;
+            Ok(())
+        }
+        None => Err(JobError::Malformed { line }),
+    }
+}
+
 impl Tail {
     ghost use Rattle.crn_job.specs.Reading.{tail_of};
 
@@ -150,8 +181,8 @@ impl Tail {
         word: Word,
         rest: &[Token],
     ) -> Result<Tail, JobError>
-        requires { length self.segments.items ≤ 10000 }
-        ensures { (bytes : List ℕ) → Gives tail_of result (judged line (grammar.tail_follow (tail_of self) self.left word (map (plain_token bytes) rest.now))) }
+        requires { length self.segments.items ≤ MOST_SEGMENTS }
+        ensures { (bytes : List ℕ) → Gives tail_of result (judged grammar.tail_limit line (grammar.tail_follow (tail_of self) self.left word (map (plain_token bytes) rest.now))) }
     {
         if self.left > 0 {
             match (word, self.rails) {
@@ -170,8 +201,8 @@ impl Tail {
     // The two amounts of one more input.
     fn dual_input(mut self, line: usize, rest: &[Token]) -> Result<Tail, JobError>
         requires some { 0 < self.left }
-        requires few { length self.segments.items ≤ 10000 }
-        ensures { (bytes : List ℕ) → Gives tail_of result (judged line (option_map (λ qs. grammar.with_input (tail_of self) (self.left - 1) qs) (numbers_of 2 (map (plain_token bytes) rest.now)))) }
+        requires few { length self.segments.items ≤ MOST_SEGMENTS }
+        ensures { (bytes : List ℕ) → Gives tail_of result (judged grammar.tail_limit line (option_map (λ qs. grammar.with_input (tail_of self) (self.left - 1) qs) (numbers_of 2 (map (plain_token bytes) rest.now)))) }
     {
         match two_numbers(rest) {
             Some(pair) => {
@@ -187,8 +218,8 @@ impl Tail {
     // The amount of one more input.
     fn direct_input(mut self, line: usize, rest: &[Token]) -> Result<Tail, JobError>
         requires some { 0 < self.left }
-        requires few { length self.segments.items ≤ 10000 }
-        ensures { (bytes : List ℕ) → Gives tail_of result (judged line (option_map (λ qs. grammar.with_input (tail_of self) (self.left - 1) qs) (numbers_of 1 (map (plain_token bytes) rest.now)))) }
+        requires few { length self.segments.items ≤ MOST_SEGMENTS }
+        ensures { (bytes : List ℕ) → Gives tail_of result (judged grammar.tail_limit line (option_map (λ qs. grammar.with_input (tail_of self) (self.left - 1) qs) (numbers_of 1 (map (plain_token bytes) rest.now)))) }
     {
         match one_number(rest) {
             Some(amount) => {
@@ -202,22 +233,12 @@ impl Tail {
 
     // One more segment.
     fn with_segment(mut self, alloc: Global, line: usize, rest: &[Token]) -> Result<Tail, JobError>
-        requires { length self.segments.items ≤ 10000 }
-        ensures { (bytes : List ℕ) → Gives tail_of result (judged line (option_map (λ u. grammar.with_segment (tail_of self) u) (segment_of (map (plain_token bytes) rest.now)))) }
+        requires { length self.segments.items ≤ MOST_SEGMENTS }
+        ensures { (bytes : List ℕ) → Gives tail_of result (judged grammar.tail_limit line (option_map (λ us. grammar.with_segments (tail_of self) us) (segments_with self.segments.items (map (plain_token bytes) rest.now)))) }
     {
-        match read_segment(alloc, rest)? {
-            Some(segment) => {
-                let count = self.segments.len() + 1;
-                if count > 10000 {
-                    return Err(JobError::Limit {
-                        what: Counted::Segments,
-                        count: count as u64,
-                    });
-                }
-                self.segments.push(segment)?;
-                Ok(self)
-            }
-            None => Err(JobError::Malformed { line }),
+        match push_segment(alloc, &mut self.segments, line, rest) {
+            Ok(()) => Ok(self),
+            Err(error) => Err(error),
         }
     }
 

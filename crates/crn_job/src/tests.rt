@@ -100,8 +100,8 @@ fn reads_or_refuses(rt: HostRuntime) -> Result<(), Fail> {
     Ok(())
 }
 
-fn with_segments(alloc: Global, count: usize) -> Result<Vec<u8>, AllocError> {
-    let mut text = Vec::from_slice(alloc, MINIMUM)?;
+fn with_segments(alloc: Global, head: &[u8], count: usize) -> Result<Vec<u8>, AllocError> {
+    let mut text = Vec::from_slice(alloc, head)?;
     for _ in 0..count {
         text.extend_from_slice(b"segment 1:1/10000\n")?;
     }
@@ -110,14 +110,18 @@ fn with_segments(alloc: Global, count: usize) -> Result<Vec<u8>, AllocError> {
 
 #[test]
 fn ten_thousand_segments(rt: HostRuntime) -> Result<(), Fail> {
-    let text = with_segments(rt.alloc(), 10_000)?;
-    assert_eq!(rt; read(rt.alloc(), text.as_slice()), Ok(10_000));
-    let text = with_segments(rt.alloc(), 10_001)?;
     let wanted = Err(JobError::Limit {
         what: Counted::Segments,
         count: 10_001,
     });
+    let text = with_segments(rt.alloc(), MINIMUM, 10_000)?;
+    assert_eq!(rt; read(rt.alloc(), text.as_slice()), Ok(10_000));
+    let text = with_segments(rt.alloc(), MINIMUM, 10_001)?;
     assert_eq!(rt; read(rt.alloc(), text.as_slice()), wanted);
+    let text = with_segments(rt.alloc(), SPLIT, 10_000)?;
+    assert_eq!(rt; read_run(rt.alloc(), text.as_slice()), Ok(10_000));
+    let text = with_segments(rt.alloc(), SPLIT, 10_001)?;
+    assert_eq!(rt; read_run(rt.alloc(), text.as_slice()), wanted);
     Ok(())
 }
 
@@ -142,5 +146,74 @@ fn amounts_from_left_to_right(rt: HostRuntime) -> Result<(), Fail> {
     )?;
     assert_eq!(rt; amounts.as_slice(), [Frac::of(2, 3)?].as_slice());
     assert_eq!(rt; segments.len(), 1);
+    Ok(())
+}
+
+// The network of the maximum of a variable and 3, with its context.
+const MAXIMUM: &[u8] =
+    b"crn 2 dual\nspecies 14\ninput S1 S2\ncontext S3\noutput S13 S14\nreactions 11\nS1 -> S4\nS2 -> S5\nS3 -> S6\nS4 -> S7\nS5 -> S8\nS6 -> 3 S9\nS8 -> S11\nS9 -> S11 + S13\nS10 -> S12\nS7 -> S12 + S13\nS11 + S12 -> S14\namount S3 1\nsegment 3:1\n";
+
+// The same without its fourth line.
+const NO_CONTEXT: &[u8] =
+    b"crn 2 dual\nspecies 14\ninput S1 S2\noutput S13 S14\nreactions 11\nS1 -> S4\nS2 -> S5\nS3 -> S6\nS4 -> S7\nS5 -> S8\nS6 -> 3 S9\nS8 -> S11\nS9 -> S11 + S13\nS10 -> S12\nS7 -> S12 + S13\nS11 + S12 -> S14\namount S3 1\nsegment 3:1\n";
+
+// A network that splits its input; the lines after it begin at line 8.
+const SPLIT: &[u8] =
+    b"crn 1 direct\nspecies 3\ninput S1\noutput S2\nreactions 2\nS1 -> S2\nS1 -> S3\n";
+
+// How many segments the run job that was read has, or why none was.
+fn read_run(alloc: Global, text: &[u8]) -> Result<usize, JobError> {
+    match read_run_job(alloc, text) {
+        Ok(job) => Ok(job.segments.len()),
+        Err(error) => Err(error),
+    }
+}
+
+fn joined(alloc: Global, head: &[u8], tail: &[u8]) -> Result<Vec<u8>, AllocError> {
+    let mut text = Vec::from_slice(alloc, head)?;
+    text.extend_from_slice(tail)?;
+    Ok(text)
+}
+
+#[test]
+fn reads_or_refuses_run_jobs(rt: HostRuntime) -> Result<(), Fail> {
+    assert_eq!(rt; read_run(rt.alloc(), MAXIMUM), Ok(1));
+    assert_eq!(rt; read_run(rt.alloc(), NO_CONTEXT), malformed(4));
+    for (tail, wanted) in [
+        ("", Ok(0)),
+        ("amount S1 1\nsegment 1:2/3 2:2/3\n", Ok(1)),
+        ("amount S1 0\namount S 3 4/6\n", Ok(0)),
+        ("segment 7:1\n", Ok(1)),
+        ("amount S2 1\namount S1 1\n", malformed(9)),
+        ("amount S2 1\namount S2 1\n", malformed(9)),
+        ("amount S4 1\n", malformed(8)),
+        ("amount S0 1\n", malformed(8)),
+        ("amount S1\n", malformed(8)),
+        ("amount S1 -1\n", malformed(8)),
+        ("amount S1 1 2\n", malformed(8)),
+        ("amountS1 1\n", malformed(8)),
+        ("input 1\n", malformed(8)),
+        ("segment 1:1\namount S1 1\n", malformed(9)),
+        ("segment 2:1 1:1\n", malformed(8)),
+        ("S1 -> S2\n", malformed(8)),
+    ] {
+        let text = joined(rt.alloc(), SPLIT, tail.as_bytes())?;
+        assert_eq!(rt; read_run(rt.alloc(), text.as_slice()), wanted, "{tail}");
+    }
+    Ok(())
+}
+
+#[test]
+fn amounts_of_species(rt: HostRuntime) -> Result<(), Fail> {
+    let text = joined(
+        rt.alloc(),
+        SPLIT,
+        b"amount S1 1/2\namount S3 4/6\n".as_slice(),
+    )?;
+    let job = read_run_job(rt.alloc(), text.as_slice())?;
+    assert_eq!(rt; job.network.species(), 3);
+    assert_eq!(rt; job.state.amount(1), Frac::of(1, 2)?);
+    assert_eq!(rt; job.state.amount(2), Frac::ZERO);
+    assert_eq!(rt; job.state.amount(3), Frac::of(2, 3)?);
     Ok(())
 }

@@ -1,7 +1,10 @@
-ghost use Rattle.std.specs.Prelude.{◌≡◌, map, slice_range, [], if◌then◌else◌};
+//! The words, numbers and tokens of a line.
+
+ghost use Rattle.std.specs.Prelude.{ℕ, List, ◌≡◌, map, slice_range, [], if◌then◌else◌};
 ghost use Rattle.std.specs.Str.{bytes_eq};
 ghost use Rattle.crn_token.specs.Plain.{plain_token};
 ghost use Rattle.crn_function_text.specs.Words.{rest_of};
+ghost use Rattle.crn_net_text.specs.Grammar.{begins, number_at};
 ghost use Rattle.crn_job.specs.Words.{word_of, first_word};
 
 use crn_token::{Line, Span, Token};
@@ -10,8 +13,9 @@ use crn_token::{Line, Span, Token};
 #[derive(Clone, Copy, Debug, PartialEq, Eq)]
 pub enum Word {
     Input,
+    Amount,
     Segment,
-    /// No word, or one of no line after a function part.
+    /// No word, or one of no line after a function part or a network part.
     Other,
 }
 
@@ -37,6 +41,8 @@ fn word_of(letters: &[u8]) -> Word
 {
     if spell(letters, b"input") {
         Word::Input
+    } else if spell(letters, b"amount") {
+        Word::Amount
     } else if spell(letters, b"segment") {
         Word::Segment
     } else {
@@ -51,6 +57,26 @@ pub fn first_word(bytes: &[u8], tokens: &[Token]) -> Word
     match tokens {
         [Token::Word(span), ..] => word_of(letters(bytes, *span)),
         _ => Word::Other,
+    }
+}
+
+/// Whether the first token is this word.
+pub fn begins(bytes: &[u8], tokens: &[Token], word: &[u8]) -> bool
+    ensures { result ≡ begins word.now (map (plain_token bytes.now) tokens.now) }
+{
+    match tokens {
+        [Token::Word(span), ..] => spell(letters(bytes, *span), word),
+        _ => false,
+    }
+}
+
+/// The number that is the first token.
+pub fn number_at(tokens: &[Token]) -> Option<u64>
+    ensures { (bytes : List ℕ) → result ≡ number_at (map (plain_token bytes) tokens.now) }
+{
+    match tokens {
+        [Token::Number(number, _), ..] if *number >= 0 => Some(*number as u64),
+        _ => None,
     }
 }
 

@@ -1,7 +1,7 @@
-use Rattle.std.proofs.Common.{Err, sym, subst}
+use Rattle.std.proofs.Common.{sym, subst}
 use Rattle.crn_function_text.specs.Reading.{function_of}
 use Rattle.crn_job.specs.Grammar.{job_answer}
-use Rattle.crn_job.specs.Reading.{Gives, job_of}
+use Rattle.crn_job.specs.Reading.{Gives, Refuses, job_of}
 use Rattle.crn_job.proofs.JobLaws.{job_read, job_refused}
 use Rattle.crn_job.proofs.read_text.Goals as goal
 
@@ -11,4 +11,4 @@ returns-in-Ok-clause-answer c =
 
 pub returns-clause-answer : goal.returns-clause-answer
 returns-clause-answer c =
-    subst (λ e. Gives job_of (Err e) (job_answer c.args.bytes.now)) (sym c.refused.ensures) (job_refused c.args.bytes.now c.in-Err.error c.in-Err.ensures.answer)
+    subst (λ e. Refuses e (job_answer c.args.bytes.now)) (sym c.refused.ensures) (job_refused c.args.bytes.now c.in-Err.error c.in-Err.ensures.answer)

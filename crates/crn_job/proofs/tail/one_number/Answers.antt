@@ -1,18 +1,20 @@
-use Rattle.std.proofs.Common.{◌∷◌, sym, ◌∙◌, ap, arith, length, ◌<◌, eqb-true, false-eqb}
-use Rattle.std.specs.Option.{option_map}
-use Rattle.crn_job.proofs.Numbers.{numbers_first, numbers_none, no_more, some_more}
+use Rattle.std.proofs.Common.{[], sym, ◌∙◌, arith, length, ◌<◌, eqb-true, false-eqb}
+use Rattle.crn_job.proofs.Numbers.{number_first, number_none, alone_last, alone_more, longest_nonnegative}
 use Rattle.crn_job.proofs.tail.one_number.Goals as goal
 
-pub returns-then-is_empty : goal.returns-then-is_empty
-returns-then-is_empty c = λ bytes.
-    sym (numbers_first 0 bytes c.args.tokens.now c.after-rest.result.now _ _ (c.in-Some.ensures.value bytes) c.after-rest.ensures
-    ∙ ap (option_map (λ qs. _ ∷ qs)) (no_more bytes c.after-rest.result.now (eqb-true _ 0 (sym c.is_empty.ensures ∙ c.if-is_empty.true))))
+pub returns-then-is_empty-clause-value : goal.returns-then-is_empty-clause-value
+returns-then-is_empty-clause-value c = λ bytes.
+    sym (number_first bytes c.args.tokens.now c.after-rest.result.now _ _ (c.in-Some.ensures.value bytes) c.after-rest.ensures
+    ∙ alone_last bytes _ c.after-rest.result.now (eqb-true _ 0 (sym c.is_empty.ensures ∙ c.if-is_empty.true)))
 
-pub returns-else-is_empty : goal.returns-else-is_empty
-returns-else-is_empty c = λ bytes.
+pub returns-then-is_empty-clause-not_negative : goal.returns-then-is_empty-clause-not_negative
+returns-then-is_empty-clause-not_negative c = longest_nonnegative _ _ _ (c.in-Some.ensures.found [])
+
+pub returns-else-is_empty-clause-value : goal.returns-else-is_empty-clause-value
+returns-else-is_empty-clause-value c = λ bytes.
     let some : 0 < length c.after-rest.result.now = omega (arith, false-eqb _ 0 (sym c.if-is_empty.false ∙ c.is_empty.ensures)) in
-    sym (numbers_first 0 bytes c.args.tokens.now c.after-rest.result.now _ _ (c.in-Some.ensures.value bytes) c.after-rest.ensures
-    ∙ ap (option_map (λ qs. _ ∷ qs)) (some_more bytes c.after-rest.result.now some))
+    sym (number_first bytes c.args.tokens.now c.after-rest.result.now _ _ (c.in-Some.ensures.value bytes) c.after-rest.ensures
+    ∙ alone_more bytes _ c.after-rest.result.now some)
 
-pub returns-in-None : goal.returns-in-None
-returns-in-None c = λ bytes. sym (numbers_none 0 bytes c.args.tokens.now (c.in-None.ensures.value bytes))
+pub returns-in-None-clause-value : goal.returns-in-None-clause-value
+returns-in-None-clause-value c = λ bytes. sym (number_none bytes c.args.tokens.now (c.in-None.ensures.value bytes))

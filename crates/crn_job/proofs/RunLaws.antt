@@ -1,0 +1,59 @@
+-- The answer to a run job by the answers to its parts, and that each place of a run job can end.
+use Rattle.std.proofs.Common.{◌≡◌, ℕ, zero, suc, true, List, [], drop, Option, Some, None, Err, refl, ◌∙◌, ap}
+use Rattle.crn_token.specs.declared.Counted.{Counted}
+use Rattle.crn_token.specs.Plain.{PlainLine, plain_lines}
+use Rattle.crn_grammar.specs.Table.{Malformed, Limited, CanEnd}
+use Rattle.crn_grammar.specs.Part.{Ends, Wrong, Past}
+use Rattle.crn_function_text.specs.Grammar.{line_number, end_of}
+use Rattle.crn_net.specs.Network.{Network}
+use Rattle.crn_net_text.specs.declared.NetTextError.{NetTextError}
+use Rattle.crn_net_text.specs.declared.NetTextError.TheVariants as network
+use Rattle.crn_net_text.specs.Grammar.{Place, Start, Titled, Naming, Placed, Closed, Listing, next, network_table, goes_on, network_part}
+use Rattle.crn_net_text.specs.Reading.{GivesPart}
+use Rattle.crn_net_text.proofs.Kept.{network_can_end}
+use Rattle.crn_job.specs.Followed.{answer_map}
+use Rattle.crn_job.specs.RunGrammar.{RunTail, RunValue, run_start, run_tail_table, run_tail, run_tail_answer, run_with, run_table, run_answer, state_given}
+use Rattle.crn_job.specs.Reading.{Refuses, network_refused}
+use Rattle.crn_job.proofs.FollowedLaws.{followed_on, followed_is, followed_can_end, Stops}
+
+-- ---- the answer
+-- the answer to a run job, by that to its network part
+run_is : (bytes : List ℕ) → run_answer bytes ≡ followed_on network_table goes_on run_tail run_with line_number (end_of bytes) (network_part bytes)
+run_is bytes = followed_is network_table goes_on run_tail run_with line_number (end_of bytes) Start (plain_lines bytes)
+
+pub run_read : (bytes : List ℕ) (net : Network) (n : ℕ) → network_part bytes ≡ Ends net (drop n (plain_lines bytes)) → run_answer bytes ≡ answer_map (run_with net) (run_tail_answer net.species bytes n)
+run_read bytes net n is = run_is bytes ∙ ap (followed_on network_table goes_on run_tail run_with line_number (end_of bytes)) is
+
+run_wrong : (bytes : List ℕ) (n : ℕ) → network_part bytes ≡ Wrong n → run_answer bytes ≡ Malformed n
+run_wrong bytes n is = run_is bytes ∙ ap (followed_on network_table goes_on run_tail run_with line_number (end_of bytes)) is
+
+run_past : (bytes : List ℕ) (what : Counted × ℕ) → network_part bytes ≡ Past what → run_answer bytes ≡ Limited what
+run_past bytes what is = run_is bytes ∙ ap (followed_on network_table goes_on run_tail run_with line_number (end_of bytes)) is
+
+pub run_refused : (bytes : List ℕ) (e : NetTextError) → GivesPart (plain_lines bytes) (Err e) (network_part bytes) → Refuses (network_refused e) (run_answer bytes)
+run_refused bytes (network.Malformed n) is = run_wrong bytes n is
+run_refused bytes (network.Limit what count) is = run_past bytes (what, count) is
+run_refused bytes network.Memory is = tt
+
+-- ---- each place can end
+-- lines of the network part are lines of the run job
+goes_where_allowed : (s : Place) (line : PlainLine) (t : Place) → next s line ≡ Some t → goes_on s line ≡ true
+goes_where_allowed Start line t is = refl
+goes_where_allowed (Titled rails two) line t is = refl
+goes_where_allowed (Naming rails two n inputs) line t is = refl
+goes_where_allowed (Placed rails n inputs k) line t is = refl
+goes_where_allowed (Closed net) line t is = refl
+goes_where_allowed (Listing zero net) line t is = let wrong : ◌≡◌ {A = Option Place} None (Some t) = is in cc
+goes_where_allowed (Listing (suc m) net) line t is = refl
+
+-- a run job may end wherever its network part is whole, and after each line then
+abbrev value_of : RunTail → RunValue
+value_of t = record { state = state_given t.species t.amounts; segments = t.segments }
+
+stops : (n : ℕ) (t : RunTail) → Stops (run_tail_table n) t
+stops n t = ([], t, value_of t, refl, refl)
+
+pub run_places_can_end : CanEnd run_table
+run_places_can_end =
+    followed_can_end network_table goes_on run_tail run_with network_can_end goes_where_allowed (λ net t. stops net.species t)
+    (λ s net is. ([], run_start net.species, value_of (run_start net.species), refl, refl, tt))

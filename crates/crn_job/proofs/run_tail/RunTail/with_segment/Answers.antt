@@ -1,0 +1,24 @@
+use Rattle.std.proofs.Common.{List, map, refl, sym, ◌∙◌, ap, subst}
+use Rattle.crn_token.specs.Plain.{plain_token}
+use Rattle.crn_net.specs.declared.Flow.{Flow}
+use Rattle.crn_job.specs.Followed.{answer_map}
+use Rattle.crn_job.specs.Grammar.{segments_with, segments_limit}
+use Rattle.crn_job.specs.RunGrammar.{with_segments}
+use Rattle.crn_job.specs.Reading.{judged, Refuses}
+use Rattle.crn_job.proofs.Flows.{refused_with}
+use Rattle.crn_job.proofs.RunSteps.{judged_follow_segments}
+use Rattle.crn_job.proofs.run_tail.RunTail.with_segment.Goals as goal
+
+pub returns-in-Ok : goal.returns-in-Ok
+returns-in-Ok c t bytes shows =
+    let ts = map (plain_token bytes) c.args.rest.now in (
+      with_segments t c.push_segment.new.segments.items,
+      judged_follow_segments c.args.line t ts ∙ ap (answer_map (λ us. with_segments t us)) (ap (λ (us : List (List Flow)). judged segments_limit c.args.line (segments_with us ts)) (sym shows.segments) ∙ c.in-Ok.ensures bytes),
+      record { species = shows.species; last = shows.last; state = shows.state; segments = refl },
+    )
+
+pub returns-in-Err : goal.returns-in-Err
+returns-in-Err c t bytes shows =
+    let ts = map (plain_token bytes) c.args.rest.now in
+    subst (Refuses c.in-Err.error) (sym (judged_follow_segments c.args.line t ts ∙ ap (λ (us : List (List Flow)). answer_map (λ vs. with_segments t vs) (judged segments_limit c.args.line (segments_with us ts))) (sym shows.segments)))
+    (refused_with (λ us. with_segments t us) c.in-Err.error (judged segments_limit c.args.line (segments_with c.args.self.segments.items ts)) (c.in-Err.ensures bytes))
