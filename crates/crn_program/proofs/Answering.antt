@@ -6,13 +6,15 @@ use Rattle.std.specs.Prelude.{String}
 use Rattle.crn_io.specs.Moved.{ConsumesSome}
 use Rattle.crn_segments.specs.declared.StepError.{StepError}
 use Rattle.crn_segments.specs.declared.StepError.TheVariants as step
-use Rattle.crn_program.specs.declared.answer.Command.{Command}
-use Rattle.crn_program.specs.declared.answer.Command.TheVariants.{Complete}
+use Rattle.crn_program.specs.declared.words.TextCommand.{TextCommand}
+use Rattle.crn_program.specs.declared.words.TextCommand.TheVariants.{Compile, Complete, Run}
+use Rattle.crn_program.specs.declared.words.Command.TheVariants.{OfText, Bulk}
 use Rattle.crn_program.specs.declared.status.Status.{Status}
 use Rattle.crn_program.specs.declared.status.Status.TheVariants as status
-use Rattle.crn_program.specs.Finding.{Finding, NoCommand, LongText, WrongLine, PastLimit, OtherKind, RefusedSegment, Unfinished, NoValue, Completed, status_of, text_of, status_of_step}
-use Rattle.crn_program.specs.Answer.{Answers, Says, IsFound, IsFoundBy, text_limit}
-use Rattle.crn_program.specs.Words.{IsRow, IsNoRow}
+use Rattle.crn_program.specs.Finding.{Outcome, RefusedSegment, Finding, NoCommand, LongText, Comes, status_of, status_of_outcome, text_of, status_of_step}
+use Rattle.crn_program.specs.Answer.{Answers, Says, IsFound, IsFoundByText, IsFoundOfBulk, text_limit}
+use Rattle.crn_program.specs.Ending.{Tells}
+use Rattle.crn_program.specs.Words.{IsRow, IsNoRow, ReadNoText}
 use Rattle.crn_program.specs.Told.{Told, AnswersTo, TakesText, Came}
 
 -- ---- the text
@@ -43,27 +45,45 @@ takes_all (Some xs) (Some ys) bs gone done short =
 -- ---- answers
 
 -- what a command finds is found of the words of its row
-row_found : (words : List (List ℕ)) (command : Command) (bytes : List ℕ) (f : Finding) → IsRow command words → IsFoundBy command bytes f → IsFound words bytes f
-row_found words Complete bytes NoCommand row found = absurd found.1.5
-row_found words command bytes LongText row found = (command, row, found)
-row_found words command bytes (WrongLine n) row found = (command, row, found)
-row_found words command bytes (PastLimit what count) row found = (command, row, found)
-row_found words command bytes OtherKind row found = (command, row, found)
-row_found words command bytes (RefusedSegment t e) row found = (command, row, found)
-row_found words command bytes (Unfinished at) row found = (command, row, found)
-row_found words command bytes NoValue row found = (command, row, found)
-row_found words command bytes (Completed net c) row found = (command, row, found)
+no_no_command : (command : TextCommand) (bytes : List ℕ) → IsFoundByText command bytes NoCommand → ⊥
+no_no_command Compile bytes found = found
+no_no_command Complete bytes found = found
+no_no_command Run bytes found = found
 
-pub row_answer : (words : List (List ℕ)) (command : Command) (left : Option (List ℕ)) (s : Status) (text : List ℕ) → IsRow command words → AnswersTo (λ bytes. Says (IsFoundBy command bytes)) left s text → AnswersTo (Answers words) left s text
+row_found : (words : List (List ℕ)) (command : TextCommand) (bytes : List ℕ) (f : Finding) → IsRow (OfText command) words → IsFoundByText command bytes f → IsFound words bytes f
+row_found words command bytes NoCommand row found = absurd (no_no_command command bytes found)
+row_found words command bytes f row found = (OfText command, row, found)
+
+pub row_answer : (words : List (List ℕ)) (command : TextCommand) (left : Option (List ℕ)) (s : Status) (text : List ℕ) → IsRow (OfText command) words → AnswersTo (λ bytes. Says (IsFoundByText command bytes)) left s text → AnswersTo (Answers words) left s text
 row_answer words command left s text row (bytes, came, says) =
     (bytes, came, record { finding = says.finding; found = row_found words command bytes says.finding row says.found; status_is = says.status_is; text_is = says.text_is })
 
--- what is said of words that are no command, and of a text past the limit
-pub no_command_says : (words : List (List ℕ)) (bytes text : List ℕ) → IsNoRow words → text ≡ text_of NoCommand → Answers words bytes status.Usage text
-no_command_says words bytes text none is = record { finding = NoCommand; found = none; status_is = refl; text_is = is }
+-- what comes in `bulk` is found of its words
+pub bulk_answer : (words : List (List ℕ)) (n : ℕ) (left : Option (List ℕ)) (s : Status) (text : List ℕ) → IsRow (Bulk n) words → Tells (IsFoundOfBulk n) s text → AnswersTo (Answers words) left s text
+bulk_answer words n left s text row tells =
+    let came = some_came left in
+    (came.0, came.1, record { finding = Comes tells.outcome; found = (Bulk n, row, tells.found); status_is = tells.status_is; text_is = tells.text_is })
 
-pub too_long_says : (command : Command) (bytes text : List ℕ) → text_limit < length bytes → text ≡ text_of LongText → Says (IsFoundBy command bytes) status.TextTooLong text
-too_long_says Complete bytes text long is = record { finding = LongText; found = long; status_is = refl; text_is = is }
+-- words in a row that reads a text are in no other
+pub bulk_reads_none : (words : List (List ℕ)) (n : ℕ) → IsRow (Bulk n) words → ReadNoText words
+bulk_reads_none words n row Compile also = let wrong = sym row.0 ∙ also in cc wrong
+bulk_reads_none words n row Complete also = let wrong = sym row.0 ∙ also in cc wrong
+bulk_reads_none words n row Run also = let wrong = sym row.0 ∙ also in cc wrong
+
+pub no_row_reads_none : (words : List (List ℕ)) → IsNoRow words → ReadNoText words
+no_row_reads_none words none command row = none (OfText command) row
+
+-- what is said of words that are no command, and of a text past the limit
+pub no_command_says : (words : List (List ℕ)) (bytes : List ℕ) (s : Status) (text : List ℕ) → IsNoRow words → s ≡ status.Usage → text ≡ text_of NoCommand → Answers words bytes s text
+no_command_says words bytes s text none status_is is = record { finding = NoCommand; found = none; status_is = status_is; text_is = is }
+
+long_found : (command : TextCommand) (bytes : List ℕ) → text_limit < length bytes → IsFoundByText command bytes LongText
+long_found Compile bytes long = long
+long_found Complete bytes long = long
+long_found Run bytes long = long
+
+pub too_long_says : (command : TextCommand) (bytes : List ℕ) (s : Status) (text : List ℕ) → text_limit < length bytes → s ≡ status.TextTooLong → text ≡ text_of LongText → Says (IsFoundByText command bytes) s text
+too_long_says command bytes s text long status_is is = record { finding = LongText; found = long_found command bytes long; status_is = status_is; text_is = is }
 
 -- what is found is told by a status of its own, and not by one of reading, writing or memory
 abbrev IsOwn : Status → Type 0
@@ -78,16 +98,13 @@ step_is_own (step.NotPresent r s) = tt
 step_is_own (step.TooBig s) = tt
 step_is_own (step.TakesMore s) = tt
 
+outcome_is_own : (o : Outcome) → IsOwn (status_of_outcome o)
+outcome_is_own (RefusedSegment t e) = step_is_own e
+outcome_is_own _ = tt
+
 finding_is_own : (f : Finding) → IsOwn (status_of f)
-finding_is_own NoCommand = tt
-finding_is_own LongText = tt
-finding_is_own (WrongLine n) = tt
-finding_is_own (PastLimit what count) = tt
-finding_is_own OtherKind = tt
-finding_is_own (RefusedSegment t e) = step_is_own e
-finding_is_own (Unfinished at) = tt
-finding_is_own NoValue = tt
-finding_is_own (Completed net c) = tt
+finding_is_own (Comes o) = outcome_is_own o
+finding_is_own _ = tt
 
 own_told : (answers : Status → List ℕ → Type 0) (old new : Option (List ℕ)) (s : Status) (text : List ℕ) → IsOwn s → answers s text → Appends old new text → Told answers old new s
 own_told answers old new status.Done text own answer written = (text, answer, written)

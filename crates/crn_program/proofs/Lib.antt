@@ -1,8 +1,11 @@
 pub mod ReportLaws
+pub mod Outcomes
 pub mod Found
 pub mod Starting
 pub mod Answering
-pub mod Replaying
+pub mod Replayed
 pub mod Completing
-pub mod Networks
+pub mod Halving
+pub mod Computing
 pub mod OneAnswer
+pub mod Endings

@@ -1,102 +1,118 @@
 -- When the program finds what, and so what it answers: a status, and the text that it writes.
-use Rattle.std.specs.Prelude.{ℕ, suc, ◌≡◌, ◌<◌, ◌≤◌, List, ◌∷◌, ◌++◌, length, None, Some}
-use Rattle.crn_fraction.specs.Rational.{ℚ, ◌+ℚ◌}
+use Rattle.std.specs.Prelude.{ℕ, ◌≡◌, ◌<◌, ◌≤◌, List, length, None, Some}
+use Rattle.crn_fraction.specs.Rational.{ℚ}
 use Rattle.crn_token.specs.declared.Counted.{Counted}
 use Rattle.crn_token.specs.Plain.{plain_lines}
 use Rattle.crn_grammar.specs.Table as grammar
-use Rattle.crn_formula.specs.Formulas.{Formula}
-use Rattle.crn_formula.specs.Functions.{Kind, ByFormula, ByPieces, ByLeast}
-use Rattle.crn_function_text.specs.Grammar.{line_number, end_of}
-use Rattle.crn_net.specs.Network.{Network, Run, IsSettled, start, completion, completed, encoded, output}
-use Rattle.crn_net.specs.Totals.{total}
-use Rattle.crn_net.specs.declared.Flow.{Flow}
-use Rattle.crn_segments.specs.Fits.{CompletionFits}
-use Rattle.crn_segments.specs.Step.{step_refusal}
-use Rattle.crn_segments.specs.Steps.{StepsGo}
-use Rattle.crn_segments.specs.declared.StepError.{StepError}
-use Rattle.crn_completer.specs.Refusal.{completion_refusal}
-use Rattle.crn_dual.specs.Layout.{layout}
+use Rattle.crn_formula.specs.Functions.{IsGivenByPieces}
+use Rattle.crn_function_text.specs.Grammar.{PlainFunction, function_table, line_number, end_of}
+use Rattle.crn_net.specs.Network.{Network, start, encoded, after_all, completed}
+use Rattle.crn_net_text.specs.NetworkText.{network_text}
+use Rattle.crn_net_text.specs.Grammar.{network_table}
 use Rattle.crn_job.specs.Grammar.{PlainJob, job_table}
+use Rattle.crn_job.specs.RunGrammar.{PlainRunJob, run_table}
+use Rattle.crn_bulk.specs.Generator.{bulk_job, bulk_number}
+use Rattle.crn_completer.specs.Refusal.{completion_refusal}
+use Rattle.crn_program.specs.Bulk.{halves, halves_refusal}
 use Rattle.crn_program.specs.Report.{OutputFits}
-use Rattle.crn_program.specs.Finding.{Finding, NoCommand, LongText, WrongLine, PastLimit, OtherKind, RefusedSegment, Unfinished, NoValue, Completed, status_of, text_of}
-use Rattle.crn_program.specs.Value.{function_value}
+use Rattle.crn_program.specs.Finding.{Outcome, OtherKind, Compiled, Unfinished, NoValue, Unmade, Bulked, Finding, NoCommand, LongText, WrongLine, PastLimit, Comes, status_of, text_of}
+use Rattle.crn_program.specs.Runs.{IsCompleted, IsFoundOf, IsFoundOfRun}
+use Rattle.crn_program.specs.Value.{IsValue, IsNetworkOf}
+use Rattle.crn_compile.specs.Networks.{ComputesFunction}
 use Rattle.crn_program.specs.Words.{IsRow, IsNoRow}
-use Rattle.crn_program.specs.declared.answer.Command.{Command}
-use Rattle.crn_program.specs.declared.answer.Command.TheVariants.{Complete}
+use Rattle.crn_program.specs.declared.words.TextCommand.{TextCommand}
+use Rattle.crn_program.specs.declared.words.TextCommand.TheVariants.{Compile, Complete, Run}
+use Rattle.crn_program.specs.declared.words.Command.{Command}
+use Rattle.crn_program.specs.declared.words.Command.TheVariants.{OfText, Bulk}
 use Rattle.crn_program.specs.declared.status.Status.{Status}
 
 -- the greatest number of bytes of a text
 abbrev pub text_limit : ℕ
 text_limit = 1048576
 
--- ---- `complete`, from a start with amounts xs on, by the given segments us
+-- ---- the right answer to the bytes, by the grammar of each text
 
--- from a on, segment t is the first that is refused, and so
-pub record IsRefused (net : Network) (a : List ℚ) (us : List (List Flow)) (t : ℕ) (e : StepError) : Type 0 where
-  pub before : List (List Flow)
-  pub segment : List Flow
-  pub rest : List (List Flow)
-  pub state : List ℚ
-  pub split : us ≡ before ++ segment ∷ rest
-  pub place : t ≡ suc (length before)
-  pub leads : StepsGo net a before state
-  pub refused : step_refusal net state segment ≡ Some e
+abbrev pub IsFunctionAnswer : List ℕ → grammar.Answer PlainFunction (Counted × ℕ) → Type 0
+IsFunctionAnswer bytes a = grammar.IsAnswer function_table line_number (end_of bytes) (plain_lines bytes) a
 
--- The given segments are a run from the start to c. The completion is a run from there, and what the output is at its end, which no further run changes, is the
--- value. Each reaction happens, in the given segments and in the completion, as much as in the completion from the start.
-pub record IsCompleted (net : Network) (value : ℚ) (xs : List ℚ) (us : List (List Flow)) (c : List ℚ) : Type 0 where
-  pub leads : StepsGo net (start net xs) us c
-  pub run : Run net (start net xs) us c
-  pub finishes : completion_refusal net c ≡ None
-  pub fits : CompletionFits net c
-  pub output_fits : OutputFits net.output (completed net c)
-  pub completes : Run net c (completion net c) (completed net c)
-  pub value_is : output net (completed net c) ≡ value
-  pub settled : IsSettled net (completed net c) value
-  pub fluxes : (r : ℕ) → 1 ≤ r → r ≤ length net.reactions → total us r +ℚ total (completion net c) r ≡ total (completion net (start net xs)) r
-
--- what is found of a job with this network, this value, these amounts and segments
-abbrev pub IsFoundOf : Network → ℚ → List ℚ → List (List Flow) → Finding → Type 0
-IsFoundOf net value xs us (RefusedSegment t e) = IsRefused net (start net xs) us t e
-IsFoundOf net value xs us (Unfinished at) = (c : List ℚ) × StepsGo net (start net xs) us c × (completion_refusal net c ≡ Some at)
-IsFoundOf net value xs us NoValue = (c : List ℚ) × StepsGo net (start net xs) us c × (completion_refusal net c ≡ None) × (OutputFits net.output (completed net c) → ⊥)
-IsFoundOf net value xs us (Completed n c) = (n ≡ net) × IsCompleted net value xs us c
-IsFoundOf net value xs us _ = ⊥
-
--- ---- `complete`, of a text
-
--- the right answer to the text, by the grammar of jobs
 abbrev pub IsJobAnswer : List ℕ → grammar.Answer PlainJob (Counted × ℕ) → Type 0
 IsJobAnswer bytes a = grammar.IsAnswer job_table line_number (end_of bytes) (plain_lines bytes) a
 
--- given by pieces, or as the least of forms
-abbrev pub IsOtherKind : Kind → Type 0
-IsOtherKind (ByFormula e) = ⊥
-IsOtherKind (ByPieces pieces) = Unit {0}
-IsOtherKind (ByLeast forms) = Unit {0}
+abbrev pub IsRunAnswer : List ℕ → grammar.Answer PlainRunJob (Counted × ℕ) → Type 0
+IsRunAnswer bytes a = grammar.IsAnswer run_table line_number (end_of bytes) (plain_lines bytes) a
 
--- the text is a job of the formula e over k variables, with these amounts and segments
-pub record IsFormulaJob (bytes : List ℕ) (k : ℕ) (e : Formula) (xs : List ℚ) (us : List (List Flow)) : Type 0 where
-  pub read : IsJobAnswer bytes (grammar.Read (record { function = record { variables = k; kind = ByFormula e }; amounts = xs; segments = us }))
+abbrev pub IsNetworkAnswer : List ℕ → grammar.Answer Network (Counted × ℕ) → Type 0
+IsNetworkAnswer bytes a = grammar.IsAnswer network_table line_number (end_of bytes) (plain_lines bytes) a
 
--- what is found of a job of a formula, by its network and its value at the point that the amounts encode
-abbrev pub IsFoundInJob : List ℕ → Finding → Type 0
-IsFoundInJob bytes finding =
-    (k : ℕ) × (e : Formula) × (xs : List ℚ) × (us : List (List Flow)) × IsFormulaJob bytes k e xs us
-    × IsFoundOf (layout k e) (function_value k e (encoded (layout k e).rails xs)) xs us finding
+-- ---- what comes of a function, of a job and of a run job
 
--- what is found of a text
-abbrev pub IsFoundInText : List ℕ → Finding → Type 0
-IsFoundInText bytes LongText = text_limit < length bytes
-IsFoundInText bytes (WrongLine n) = (length bytes ≤ text_limit) × IsJobAnswer bytes (grammar.Malformed n)
-IsFoundInText bytes (PastLimit what count) = (length bytes ≤ text_limit) × IsJobAnswer bytes (grammar.Limited (what, count))
-IsFoundInText bytes OtherKind = (length bytes ≤ text_limit) × (job : PlainJob) × IsJobAnswer bytes (grammar.Read job) × IsOtherKind job.function.kind
-IsFoundInText bytes finding = (length bytes ≤ text_limit) × IsFoundInJob bytes finding
+-- The network of the function. It stably computes the function's value at each point that a start encodes, and its text is read as this network.
+pub record IsCompiled (f : PlainFunction) (net : Network) : Type 0 where
+  pub network : IsNetworkOf f net
+  pub computes : ComputesFunction net f.variables f.kind
+  pub reads_back : IsNetworkAnswer (network_text net) (grammar.Read net)
+
+-- `compile`
+abbrev pub IsFoundOfFunction : PlainFunction → Outcome → Type 0
+IsFoundOfFunction f OtherKind = IsGivenByPieces f.kind
+IsFoundOfFunction f (Compiled net) = IsCompiled f net
+IsFoundOfFunction f _ = ⊥
+
+-- `complete`: what comes of the job's segments in the network of its function, from the start with its amounts on
+abbrev pub IsFoundOfJob : PlainJob → Outcome → Type 0
+IsFoundOfJob job OtherKind = IsGivenByPieces job.function.kind
+IsFoundOfJob job outcome =
+    (net : Network) × (value : ℚ) × IsNetworkOf job.function net × IsValue job.function (encoded net.rails job.amounts) value
+    × IsFoundOf net value (start net job.amounts) job.segments outcome
+
+-- `run`: what comes of the segments from the given state on
+abbrev pub IsFoundOfRunJob : PlainRunJob → Outcome → Type 0
+IsFoundOfRunJob job = IsFoundOfRun job.network job.state job.segments
+
+-- what comes of the completion from c, where it is refused
+abbrev pub IsStoppedAt : Network → List ℚ → Outcome → Type 0
+IsStoppedAt net c (Unfinished at) = completion_refusal net c ≡ Some at
+IsStoppedAt net c NoValue = (completion_refusal net c ≡ None) × (OutputFits net.output (completed net c) → ⊥)
+IsStoppedAt net c _ = ⊥
+
+-- what comes of the segments that are drawn after z, from a on, and of the completion after them, where the network computes this value; in `bulk` of size n
+abbrev pub IsFoundOfHalves : Network → ℚ → List ℚ → (z n : ℕ) → Outcome → Type 0
+IsFoundOfHalves net value a z n (Unmade r) = halves_refusal net z a ≡ Some r
+IsFoundOfHalves net value a z n (Bulked m on count c) =
+    (m ≡ n) × (on ≡ net) × (halves_refusal net z a ≡ None) × (count ≡ length (halves net z a)) × IsCompleted net value a (halves net z a) c
+IsFoundOfHalves net value a z n outcome = (halves_refusal net z a ≡ None) × IsStoppedAt net (after_all net a (halves net z a)) outcome
+
+-- `bulk` of size n: what comes of the formula, the amounts and the segments that are drawn
+abbrev pub IsFoundOfBulk : ℕ → Outcome → Type 0
+IsFoundOfBulk n outcome =
+    (net : Network) × (value : ℚ) × IsNetworkOf (bulk_job n).function net × IsValue (bulk_job n).function (encoded net.rails (bulk_job n).amounts) value
+    × IsFoundOfHalves net value (start net (bulk_job n).amounts) (bulk_number n) n outcome
+
+-- ---- what is found of a text
+
+-- of a text with this right answer, of whose value these outcomes come
+abbrev pub IsFoundInText : {V : Type 0} → (List ℕ → grammar.Answer V (Counted × ℕ) → Type 0) → (V → Outcome → Type 0) → List ℕ → Finding → Type 0
+IsFoundInText IsRight Found bytes NoCommand = ⊥
+IsFoundInText IsRight Found bytes LongText = text_limit < length bytes
+IsFoundInText IsRight Found bytes (WrongLine n) = (length bytes ≤ text_limit) × IsRight bytes (grammar.Malformed n)
+IsFoundInText IsRight Found bytes (PastLimit what count) = (length bytes ≤ text_limit) × IsRight bytes (grammar.Limited (what, count))
+IsFoundInText {V} IsRight Found bytes (Comes outcome) = (length bytes ≤ text_limit) × (v : V) × IsRight bytes (grammar.Read v) × Found v outcome
+
+-- of a command that reads no text
+abbrev pub IsFoundInNothing : (Outcome → Type 0) → List ℕ → Finding → Type 0
+IsFoundInNothing Found bytes (Comes outcome) = Found outcome
+IsFoundInNothing Found bytes _ = ⊥
 
 -- ---- every command
 
+abbrev pub IsFoundByText : TextCommand → List ℕ → Finding → Type 0
+IsFoundByText Compile = IsFoundInText IsFunctionAnswer IsFoundOfFunction
+IsFoundByText Complete = IsFoundInText IsJobAnswer IsFoundOfJob
+IsFoundByText Run = IsFoundInText IsRunAnswer IsFoundOfRunJob
+
 abbrev pub IsFoundBy : Command → List ℕ → Finding → Type 0
-IsFoundBy Complete = IsFoundInText
+IsFoundBy (OfText command) = IsFoundByText command
+IsFoundBy (Bulk n) = IsFoundInNothing (IsFoundOfBulk n)
 
 -- what is found of the words, where these bytes came
 abbrev pub IsFound : List (List ℕ) → List ℕ → Finding → Type 0

@@ -5,12 +5,34 @@ use Rattle.crn_fraction.specs.Rational.{ℚ}
 use Rattle.crn_token.specs.declared.Counted.{Counted}
 use Rattle.crn_token.specs.declared.Counted.TheVariants as counted
 use Rattle.crn_net.specs.Network.{Network, completion, completed}
+use Rattle.crn_net_text.specs.NetworkText.{network_text}
 use Rattle.crn_segments.specs.declared.StepError.{StepError}
 use Rattle.crn_segments.specs.declared.StepError.TheVariants as step
 use Rattle.crn_completer.specs.declared.CompletionTooBig.{CompletionTooBig}
 use Rattle.crn_program.specs.declared.status.Status.{Status}
 use Rattle.crn_program.specs.declared.status.Status.TheVariants as status
-use Rattle.crn_program.specs.Report.{completion_report, refusal}
+use Rattle.crn_program.specs.Report.{completion_report, run_report, bulk_report, refusal}
+
+-- what comes of a text that was read: of its function, its network and its segments
+pub data Outcome : Type 0 where
+  -- the function is of a kind that is not compiled yet
+  OtherKind : Outcome
+  -- a given segment is refused
+  RefusedSegment : (number : ℕ) → StepError → Outcome
+  -- a number of the completion does not fit
+  Unfinished : CompletionTooBig → Outcome
+  -- the value of the output does not fit
+  NoValue : Outcome
+  -- the network of the function
+  Compiled : Network → Outcome
+  -- the completion of the network from the state to which the given segments lead
+  Completed : Network → (state : List ℚ) → Outcome
+  -- the state of the network to which the given segments lead
+  Ran : Network → (state : List ℚ) → Outcome
+  -- in `bulk`, a number of the step of this reaction does not fit
+  Unmade : (reaction : ℕ) → Outcome
+  -- in `bulk` of this size, so many segments lead the network to a state, and the completion from there
+  Bulked : (size : ℕ) → Network → (segments : ℕ) → (state : List ℚ) → Outcome
 
 pub data Finding : Type 0 where
   -- the words are no command
@@ -21,16 +43,8 @@ pub data Finding : Type 0 where
   WrongLine : (line : ℕ) → Finding
   -- a line passes a limit
   PastLimit : Counted → (count : ℕ) → Finding
-  -- the function is of a kind that is not compiled yet
-  OtherKind : Finding
-  -- a given segment is refused
-  RefusedSegment : (number : ℕ) → StepError → Finding
-  -- a number of the completion does not fit
-  Unfinished : CompletionTooBig → Finding
-  -- the value of the output does not fit
-  NoValue : Finding
-  -- the completion of the network from the state to which the given segments lead
-  Completed : Network → (state : List ℚ) → Finding
+  -- the text was read, and this comes of it
+  Comes : Outcome → Finding
 
 -- ---- the status
 
@@ -40,16 +54,23 @@ status_of_step (step.NotPresent r s) = status.Illegal
 status_of_step (step.TooBig s) = status.TooBig
 status_of_step (step.TakesMore s) = status.Illegal
 
+abbrev pub status_of_outcome : Outcome → Status
+status_of_outcome OtherKind = status.NotBuilt
+status_of_outcome (RefusedSegment t e) = status_of_step e
+status_of_outcome (Unfinished at) = status.TooBig
+status_of_outcome NoValue = status.TooBig
+status_of_outcome (Compiled net) = status.Done
+status_of_outcome (Completed net c) = status.Done
+status_of_outcome (Ran net c) = status.Done
+status_of_outcome (Unmade r) = status.TooBig
+status_of_outcome (Bulked n net m c) = status.Done
+
 abbrev pub status_of : Finding → Status
 status_of NoCommand = status.Usage
 status_of LongText = status.TextTooLong
 status_of (WrongLine n) = status.Malformed
 status_of (PastLimit what count) = status.Limit
-status_of OtherKind = status.NotBuilt
-status_of (RefusedSegment t e) = status_of_step e
-status_of (Unfinished at) = status.TooBig
-status_of NoValue = status.TooBig
-status_of (Completed net c) = status.Done
+status_of (Comes outcome) = status_of_outcome outcome
 
 -- ---- the text
 
@@ -77,13 +98,20 @@ step_words t (step.NotPresent r s) = codes "segment " ++ (decimal t ++ (codes " 
 step_words t (step.TooBig s) = codes "too big in segment " ++ (decimal t ++ (codes " at S" ++ decimal s))
 step_words t (step.TakesMore s) = codes "segment " ++ (decimal t ++ (codes " takes more S" ++ (decimal s ++ codes " than is there")))
 
+abbrev pub text_of_outcome : Outcome → List ℕ
+text_of_outcome OtherKind = refusal (codes "form not built")
+text_of_outcome (RefusedSegment t e) = refusal (step_words t e)
+text_of_outcome (Unfinished at) = refusal (codes "too big in completion of reaction " ++ (decimal at.reaction ++ (codes " at S" ++ decimal at.species)))
+text_of_outcome NoValue = refusal (codes "too big value")
+text_of_outcome (Compiled net) = network_text net
+text_of_outcome (Completed net c) = completion_report net c (completion net c) (completed net c)
+text_of_outcome (Ran net c) = run_report net c
+text_of_outcome (Unmade r) = refusal (codes "too big in bulk at reaction " ++ decimal r)
+text_of_outcome (Bulked n net m c) = bulk_report n net m (completion net c) (completed net c)
+
 abbrev pub text_of : Finding → List ℕ
 text_of NoCommand = refusal (codes "usage")
 text_of LongText = refusal (codes "text longer than 1048576 bytes")
 text_of (WrongLine n) = refusal (codes "malformed line " ++ decimal n)
 text_of (PastLimit what count) = refusal (codes "limit " ++ (word_of what ++ (codes " " ++ decimal count)))
-text_of OtherKind = refusal (codes "form not built")
-text_of (RefusedSegment t e) = refusal (step_words t e)
-text_of (Unfinished at) = refusal (codes "too big in completion of reaction " ++ (decimal at.reaction ++ (codes " at S" ++ decimal at.species)))
-text_of NoValue = refusal (codes "too big value")
-text_of (Completed net c) = completion_report net c (completion net c) (completed net c)
+text_of (Comes outcome) = text_of_outcome outcome

@@ -1,9 +1,12 @@
 pub mod Statuses
 pub mod Report
 pub mod Finding
+pub mod Runs
+pub mod Bulk
 pub mod Start
 pub mod Value
 pub mod Words
 pub mod Answer
+pub mod Lines
 pub mod Ending
 pub mod Told

@@ -19,13 +19,9 @@ line text = text ++ 10 ∷ []
 abbrev pub refusal : List ℕ → List ℕ
 refusal why = line (codes "refused: " ++ why)
 
--- `species s reactions m`
-abbrev pub size_text : ℕ → ℕ → List ℕ
-size_text species reactions = line (codes "species " ++ (decimal species ++ (codes " reactions " ++ decimal reactions)))
-
--- the size of a network
+-- the size of a network, `species s reactions m`
 abbrev pub size_line : Network → List ℕ
-size_line net = size_text net.species (length net.reactions)
+size_line net = line (codes "species " ++ (decimal net.species ++ (codes " reactions " ++ decimal (length net.reactions))))
 
 -- `amount Sa v`, where species a is there
 abbrev pub amount_line : ℕ → ℚ → List ℕ
@@ -57,3 +53,15 @@ output_lines (One a) d = line (codes "value " ++ fraction_text (amount d a))
 -- the report of a completion by the segments us, which leads from c to d
 abbrev pub completion_report : Network → List ℚ → List (List Flow) → List ℚ → List ℕ
 completion_report net c us d = size_line net ++ (state_lines net c ++ (line (codes "completion") ++ (flat_map segment_line us ++ output_lines net.output d)))
+
+-- the report of a run that leads to c
+abbrev pub run_report : Network → List ℚ → List ℕ
+run_report net c = state_lines net c ++ output_lines net.output c
+
+-- how many segments `bulk` made, and of how many the completion is
+abbrev pub counts_lines : ℕ → ℕ → List ℕ
+counts_lines made completion = line (codes "segments " ++ decimal made) ++ line (codes "completion " ++ decimal completion)
+
+-- the report of `bulk` of size n: a run of m segments, and a completion by the segments us that leads to d
+abbrev pub bulk_report : (n : ℕ) → Network → (m : ℕ) → List (List Flow) → List ℚ → List ℕ
+bulk_report n net m us d = line (codes "bulk " ++ decimal n) ++ (size_line net ++ (counts_lines m (length us) ++ output_lines net.output d))

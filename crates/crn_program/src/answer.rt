@@ -1,24 +1,23 @@
-ghost use Rattle.std.specs.Prelude.{ℕ, List, map, ◌≡◌, ◌⊎◌, ◌≤◌, length, string_bytes, IfOk, IfSome, IfNone, OnOk, IsErrOf};
-ghost use Rattle.crn_io.specs.Causes.{Rose};
-ghost use Rattle.crn_program.specs.Answer.{Answers, Says, IsFoundBy, text_limit};
-ghost use Rattle.crn_program.specs.Told.{AnswersTo, TakesText};
-ghost use Rattle.crn_program.specs.Words.{IsRow, IsNoRow};
+//! The whole answer, before anything is written.
 
+ghost use Rattle.std.specs.Prelude.{ℕ, List, map, ◌≡◌, ◌⊎◌, ◌≤◌, length, string_bytes, IfOk, OnOk, IsErrOf};
+ghost use Rattle.crn_io.specs.Causes.{Rose};
+ghost use Rattle.crn_program.specs.Answer.{Answers, Says, IsFoundByText, text_limit};
+ghost use Rattle.crn_program.specs.Told.{AnswersTo, TakesText};
+ghost use Rattle.crn_program.specs.Words.{IsNoRow, ReadNoText};
+
+use crate::bulk::bulk;
+use crate::compile::compile;
 use crate::complete::complete;
-use crate::report::refusal;
+use crate::reply::{Reply, refused};
+use crate::run::run;
 use crate::status::Status;
+use crate::words::{Command, TextCommand, command_of};
 use crn_io::{ReadAllError, Source, read_all};
 use std::alloc::{AllocError, Global};
 
 /// The greatest number of bytes of a text.
 const TEXT_LIMIT: usize = 1_048_576;
-
-/// A command of the program.
-#[derive(Clone, Copy, Debug, PartialEq, Eq)]
-pub enum Command {
-    /// `complete`: reads a job, and writes the completion report.
-    Complete,
-}
 
 /// Why there is no answer.
 #[derive(Clone, Copy, Debug, PartialEq, Eq)]
@@ -38,72 +37,56 @@ impl From<AllocError> for Stop {
     }
 }
 
-// The command that the words name.
-fn command_of(words: &[String]) -> Option<Command>
-    ensures row { IfSome result (λ command. IsRow command (map string_bytes words.now)) }
-    ensures none { IfNone result (IsNoRow (map string_bytes words.now)) }
-{
-    match words {
-        [word] => {
-            if word.as_str() == "complete" {
-                Some(Command::Complete)
-            } else {
-                None
-            }
-        }
-        _ => None,
-    }
-}
-
 // What a command answers to a text.
-fn command_answer(
-    alloc: Global,
-    command: Command,
-    bytes: &[u8],
-) -> Result<(Status, String), AllocError>
+fn command_answer(alloc: Global, command: TextCommand, bytes: &[u8]) -> Result<Reply, AllocError>
     requires { length bytes.now ≤ text_limit }
-    ensures { IfOk result (λ answer. Says (IsFoundBy command bytes.now) answer.0 (string_bytes answer.1)) }
+    ensures { IfOk result (λ reply. Says (IsFoundByText command bytes.now) reply.status reply.text.items) }
 {
     match command {
-        Command::Complete => complete(alloc, bytes),
+        TextCommand::Compile => compile(alloc, bytes),
+        TextCommand::Complete => complete(alloc, bytes),
+        TextCommand::Run => run(alloc, bytes),
     }
 }
 
 // What a command answers to the text of the source.
 fn text_answer<S: Source>(
     alloc: Global,
-    command: Command,
+    command: TextCommand,
     source: &mut S,
-) -> Result<(Status, String), Stop>
-    ensures answers { IfOk result (λ answer. AnswersTo (λ bytes. Says (IsFoundBy command bytes)) (S.left source.old) answer.0 (string_bytes answer.1)) }
+) -> Result<Reply, Stop>
+    ensures answers { IfOk result (λ reply. AnswersTo (λ bytes. Says (IsFoundByText command bytes)) (S.left source.old) reply.status reply.text.items) }
     ensures takes { OnOk result (TakesText (S.left source.old) (S.left source.new)) }
     ensures fault { IsErrOf result Stop.ReadFault → Rose (S.faults source.old) (S.faults source.new) }
+    ensures no_fault { ¬ IsErrOf result Stop.ReadFault → S.faults source.new ≡ S.faults source.old }
 {
     match read_all(alloc, source, TEXT_LIMIT) {
         Ok(bytes) => Ok(command_answer(alloc, command, &bytes)?),
         Err(ReadAllError::TooLong) => {
             let why = "text longer than 1048576 bytes";
-            Ok((Status::TextTooLong, refusal(alloc, why)?))
+            Ok(refused(alloc, Status::TextTooLong, why)?)
         }
         Err(ReadAllError::Fault) => Err(Stop::ReadFault),
         Err(ReadAllError::Memory) => Err(Stop::Memory),
     }
 }
 
-/// The whole answer, before anything is written: a status, and the text to write.
-pub fn answer<S: Source>(
+/// The answer to the words: a command may read the text of the source.
+pub(crate) fn answer<S: Source>(
     alloc: Global,
     words: &[String],
     source: &mut S,
-) -> Result<(Status, String), Stop>
-    ensures answers { IfOk result (λ answer. AnswersTo (Answers (map string_bytes words.now)) (S.left source.old) answer.0 (string_bytes answer.1)) }
-    ensures takes { OnOk result (IsNoRow (map string_bytes words.now) ⊎ TakesText (S.left source.old) (S.left source.new)) }
-    ensures untouched { IsNoRow (map string_bytes words.now) → source.new ≡ source.old }
+) -> Result<Reply, Stop>
+    ensures answers { IfOk result (λ reply. AnswersTo (Answers (map string_bytes words.now)) (S.left source.old) reply.status reply.text.items) }
+    ensures takes { OnOk result (ReadNoText (map string_bytes words.now) ⊎ TakesText (S.left source.old) (S.left source.new)) }
+    ensures untouched { ReadNoText (map string_bytes words.now) → source.new ≡ source.old }
     ensures fault { IsErrOf result Stop.ReadFault → Rose (S.faults source.old) (S.faults source.new) }
-    ensures no_row { IsNoRow (map string_bytes words.now) → IsErrOf result Stop.ReadFault → ⊥ }
+    ensures no_fault { ¬ IsErrOf result Stop.ReadFault → S.faults source.new ≡ S.faults source.old }
+    ensures no_text { ReadNoText (map string_bytes words.now) → IsErrOf result Stop.ReadFault → ⊥ }
 {
-    match command_of(words) {
-        Some(command) => text_answer(alloc, command, source),
-        None => Ok((Status::Usage, refusal(alloc, "usage")?)),
+    match command_of(alloc, words)? {
+        Some(Command::OfText(command)) => text_answer(alloc, command, source),
+        Some(Command::Bulk(size)) => Ok(bulk(alloc, size)?),
+        None => Ok(refused(alloc, Status::Usage, "usage")?),
     }
 }

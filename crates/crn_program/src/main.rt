@@ -4,7 +4,7 @@
 ghost use Rattle.std.specs.Prelude.{map, ◌≡◌, ◌≢◌, ◌⊎◌, string_bytes};
 ghost use Rattle.crn_io.specs.Causes.{Rose};
 ghost use Rattle.crn_program.specs.Answer.{Answers};
-ghost use Rattle.crn_program.specs.Words.{IsNoRow};
+ghost use Rattle.crn_program.specs.Words.{ReadNoText};
 ghost use Rattle.crn_program.specs.Told.{Told, AnswersTo, TakesText};
 
 use answer::{Stop, answer};
@@ -16,11 +16,19 @@ use std::rt::Env;
 use std::{env, io};
 
 mod answer;
+mod bulk;
+mod compile;
 mod complete;
 mod laws;
+mod networks;
+mod reading;
+mod replaying;
+mod reply;
 mod report;
+mod run;
 mod start;
 mod status;
+mod words;
 
 /// Runs the program on the words: reads a text where they are a command, and writes the answer.
 pub fn top<S: Source, K: Sink>(
@@ -33,17 +41,19 @@ pub fn top<S: Source, K: Sink>(
     ensures told { Told (AnswersTo (Answers (map string_bytes words.now)) (S.left source.old)) (K.written sink.old) (K.written sink.new) result }
 
     // What was read.
-    ensures takes { result ≢ Status.ReadFault → result ≢ Status.Memory → IsNoRow (map string_bytes words.now) ⊎ TakesText (S.left source.old) (S.left source.new) }
-    ensures untouched { IsNoRow (map string_bytes words.now) → source.new ≡ source.old }
+    ensures takes { result ≢ Status.ReadFault → result ≢ Status.Memory → ReadNoText (map string_bytes words.now) ⊎ TakesText (S.left source.old) (S.left source.new) }
+    ensures untouched { ReadNoText (map string_bytes words.now) → source.new ≡ source.old }
 
-    // A fault is told only where there was one.
+    // A fault is told exactly where there was one.
     ensures read_fault { result ≡ Status.ReadFault → Rose (S.faults source.old) (S.faults source.new) }
+    ensures no_read_fault { result ≢ Status.ReadFault → S.faults source.new ≡ S.faults source.old }
     ensures write_fault { result ≡ Status.WriteFault → Rose (K.faults sink.old) (K.faults sink.new) }
-    ensures no_row { IsNoRow (map string_bytes words.now) → result ≢ Status.ReadFault }
+    ensures no_write_fault { result ≢ Status.WriteFault → K.faults sink.new ≡ K.faults sink.old }
+    ensures no_text { ReadNoText (map string_bytes words.now) → result ≢ Status.ReadFault }
 {
     match answer(alloc, words, source) {
-        Ok((status, text)) => match write_all(sink, text.as_bytes()) {
-            Ok(()) => status,
+        Ok(reply) => match write_all(sink, &reply.text) {
+            Ok(()) => reply.status,
             Err(Failed) => Status::WriteFault,
         },
         Err(Stop::ReadFault) => Status::ReadFault,
@@ -52,7 +62,7 @@ pub fn top<S: Source, K: Sink>(
 }
 
 // The words of the command line, without the program's name. Words that are no text are one empty word.
-fn words(rt: &(impl Env + AllocGlobal)) -> Result<Vec<String>, AllocError> {
+fn given_words(rt: &(impl Env + AllocGlobal)) -> Result<Vec<String>, AllocError> {
     match env::args(rt) {
         Ok(args) => args.skip(1).collect(rt.alloc()),
         Err(error) if error.kind() == io::ErrorKind::OutOfMemory => Err(AllocError),
@@ -61,7 +71,7 @@ fn words(rt: &(impl Env + AllocGlobal)) -> Result<Vec<String>, AllocError> {
 }
 
 fn main(rt: HostRuntime) -> ExitCode {
-    let status = match words(&rt) {
+    let status = match given_words(&rt) {
         Ok(words) => {
             let mut source = StdSource::new(rt.stdin());
             let mut sink = StdSink::new(rt.stdout());

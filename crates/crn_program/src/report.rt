@@ -4,7 +4,7 @@ ghost use Rattle.std.specs.Prelude.{◌≡◌, [], ◌∷◌, ◌++◌, codes, l
 ghost use Rattle.std.specs.List.{flat_map};
 ghost use Rattle.crn_net.specs.Network.{IsNetwork, amount, value_at};
 ghost use Rattle.crn_completer.specs.Kept.{each_alone};
-ghost use Rattle.crn_program.specs.Report.{line, refusal, size_text, size_line, amount_line, state_lines, segment_line, output_lines, OutputFits};
+ghost use Rattle.crn_program.specs.Report.{line, size_line, counts_lines, amount_line, state_lines, segment_line, output_lines, run_report, bulk_report, OutputFits};
 
 use crn_fraction::{Frac, TooBig};
 use crn_net::{Ends, Network};
@@ -12,11 +12,20 @@ use crn_segments::{Flow, State};
 use std::alloc::{AllocError, Global};
 use std::fmt::Write;
 
-// The size of a network of so many species and reactions.
-fn size_text(alloc: Global, species: u32, reactions: u32) -> Result<String, AllocError>
-    ensures { IfOk result (λ text. string_bytes text ≡ size_text species reactions) }
+// The size of a network.
+fn write_size(out: &mut String, network: &Network) -> Result<(), AllocError>
+    ensures { OnOk result (string_bytes out.new ≡ string_bytes out.old ++ size_line network.now) }
 {
-    format!(in alloc; "species {species} reactions {reactions}\n")
+    let species = network.species();
+    let reactions = network.reaction_count();
+    write!(out, "species {species} reactions {reactions}\n")
+}
+
+// How many segments `bulk` made, and of how many the completion is.
+fn write_counts(out: &mut String, made: u32, completion: usize) -> Result<(), AllocError>
+    ensures { OnOk result (string_bytes out.new ≡ string_bytes out.old ++ counts_lines made completion) }
+{
+    write!(out, "segments {made}\ncompletion {completion}\n")
 }
 
 // A line for a species that is there.
@@ -91,13 +100,6 @@ pub(crate) fn value_of(network: &Network, state: &State) -> Result<Frac, TooBig>
     }
 }
 
-/// The one line that refuses.
-pub(crate) fn refusal(alloc: Global, why: &str) -> Result<String, AllocError>
-    ensures { IfOk result (λ line. string_bytes line ≡ refusal why.now) }
-{
-    format!(in alloc; "refused: {why}\n")
-}
-
 /// The report of a completion up to the state from which it goes on: the network's size and the amounts of that state.
 pub(crate) fn begin_report(
     alloc: Global,
@@ -107,7 +109,8 @@ pub(crate) fn begin_report(
     requires { length state.now ≡ network.now.species }
     ensures { IfOk result (λ text. string_bytes text ≡ size_line network.now ++ state_lines network.now state.now) }
 {
-    let mut out = size_text(alloc, network.species(), network.reaction_count())?;
+    let mut out = String::new(alloc);
+    write_size(&mut out, network)?;
     write_state(&mut out, network, state)?;
     Ok(out)
 }
@@ -126,4 +129,42 @@ pub(crate) fn end_report(
 {
     write_flows(out, flows)?;
     write_output(out, network, end, value)
+}
+
+/// The report of a run that leads to this state, where the output has this value.
+pub(crate) fn run_report(
+    alloc: Global,
+    network: &Network,
+    end: &State,
+    value: Frac,
+) -> Result<Vec<u8>, AllocError>
+    requires long { length end.now ≡ network.now.species }
+    requires value { value ≡ value_at network.now.output (amount end.now) }
+    ensures { IfOk result (λ text. text.items ≡ run_report network.now end.now) }
+{
+    let mut out = String::new(alloc);
+    write_state(&mut out, network, end)?;
+    write_output(&mut out, network, end, value)?;
+    Ok(out.into_bytes())
+}
+
+/// The report of `bulk` of this size: so many segments, and a completion by these flows to a state where the output has this value.
+pub(crate) fn bulk_report(
+    alloc: Global,
+    size: u32,
+    network: &Network,
+    made: u32,
+    flows: &[Flow],
+    end: &State,
+    value: Frac,
+) -> Result<Vec<u8>, AllocError>
+    requires long { length end.now ≡ network.now.species }
+    requires value { value ≡ value_at network.now.output (amount end.now) }
+    ensures { IfOk result (λ text. text.items ≡ bulk_report size network.now made (each_alone flows.now) end.now) }
+{
+    let mut out = format!(in alloc; "bulk {size}\n")?;
+    write_size(&mut out, network)?;
+    write_counts(&mut out, made, flows.len())?;
+    write_output(&mut out, network, end, value)?;
+    Ok(out.into_bytes())
 }

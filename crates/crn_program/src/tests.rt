@@ -23,7 +23,7 @@ fn ran(alloc: Global, words: &[&str], text: &str) -> Result<(Status, Vec<u8>), A
     Ok((status, sink.written().to_vec(alloc)?))
 }
 
-// Jobs of formulas, with what is answered to them.
+// Jobs, with what is answered to them.
 #[test]
 fn answers_to_jobs(rt: HostRuntime) -> Result<(), Fail> {
     for (text, wanted, answer) in [
@@ -178,10 +178,10 @@ fn answers_to_jobs(rt: HostRuntime) -> Result<(), Fail> {
             "refused: form not built\n",
         ),
         (
-            // not built direct
+            // complete direct two forms
             "function direct\nvariables 2\nform 2x1 + x2\nform 3x2\ninput 1\ninput 1\n",
-            Status::NotBuilt,
-            "refused: form not built\n",
+            Status::Done,
+            "species 8 reactions 6\nstate\namount S1 1\namount S2 1\ncompletion\nsegment 1:1\nsegment 2:1\nsegment 3:1\nsegment 4:1\nsegment 5:1\nsegment 6:3\nvalue 3\n",
         ),
         (
             // not built median of three
@@ -209,6 +209,137 @@ fn answers_to_jobs(rt: HostRuntime) -> Result<(), Fail> {
         ),
     ] {
         let (status, written) = ran(rt.alloc(), &["complete"], text)?;
+        assert_eq!(rt; status, wanted, "{text}");
+        assert!(rt; written.as_slice() == answer.as_bytes(), "{text}");
+    }
+    Ok(())
+}
+
+// Other commands, with what is answered to their texts.
+#[test]
+fn answers_to_other_commands(rt: HostRuntime) -> Result<(), Fail> {
+    for (words, text, wanted, answer) in [
+        (
+            // bulk one
+            &["bulk", "1"][..],
+            "",
+            Status::Done,
+            "bulk 1\nspecies 12 reactions 4\nsegments 4\ncompletion 4\nplus 57\nminus 249\nvalue -192\n",
+        ),
+        (
+            // bulk thousand
+            &["bulk", "1000"][..],
+            "",
+            Status::Done,
+            "bulk 1000\nspecies 7034 reactions 6518\nsegments 888\ncompletion 6518\nplus 78584\nminus 77555\nvalue 1029\n",
+        ),
+        (
+            // compile affine max
+            &["compile"][..],
+            "function formula\nvariables 1\nvalue max(x1, 3)\n",
+            Status::Done,
+            "crn 2 dual\nspecies 14\ninput S1 S2\ncontext S3\noutput S13 S14\nreactions 11\nS1 -> S4\nS2 -> S5\nS3 -> S6\nS4 -> S7\nS5 -> S8\nS6 -> 3 S9\nS8 -> S11\nS9 -> S11 + S13\nS10 -> S12\nS7 -> S12 + S13\nS11 + S12 -> S14\n",
+        ),
+        (
+            // compile direct two forms
+            &["compile"][..],
+            "function direct\nvariables 2\nform 2x1 + x2\nform 3x2\n",
+            Status::Done,
+            "crn 1 direct\nspecies 8\ninput S1\ninput S2\noutput S8\nreactions 6\nS1 -> S3\nS2 -> S4 + S5\nS3 -> 2 S6\nS4 -> S6\nS5 -> 3 S7\nS6 + S7 -> S8\n",
+        ),
+        (
+            // compile min of two
+            &["compile"][..],
+            "function formula\nvariables 2\nvalue min(x1, x2)\n",
+            Status::Done,
+            "crn 1 dual\nspecies 16\ninput S1 S2\ninput S3 S4\noutput S15 S16\nreactions 13\nS1 -> S5\nS2 -> S6\nS3 -> S7\nS4 -> S8\nS5 -> S9\nS6 -> S10\nS7 -> S11\nS8 -> S12\nS9 -> S13\nS12 -> S13 + S16\nS11 -> S14\nS10 -> S14 + S16\nS13 + S14 -> S15\n",
+        ),
+        (
+            // limit depth
+            &["compile"][..],
+            "function formula\nvariables 1\nvalue scale(1, scale(1, scale(1, scale(1, scale(1, scale(1, scale(1, scale(1, scale(1, scale(1, scale(1, scale(1, scale(1, scale(1, scale(1, scale(1, scale(1, scale(1, scale(1, scale(1, scale(1, scale(1, scale(1, scale(1, scale(1, scale(1, scale(1, scale(1, scale(1, scale(1, scale(1, scale(1, scale(1, scale(1, scale(1, scale(1, scale(1, scale(1, scale(1, scale(1, scale(1, scale(1, scale(1, scale(1, scale(1, scale(1, scale(1, scale(1, scale(1, scale(1, scale(1, scale(1, scale(1, scale(1, scale(1, scale(1, scale(1, scale(1, scale(1, scale(1, scale(1, scale(1, scale(1, scale(1, x1))))))))))))))))))))))))))))))))))))))))))))))))))))))))))))))))\n",
+            Status::Limit,
+            "refused: limit depth 65\n",
+        ),
+        (
+            // limit variables
+            &["compile"][..],
+            "function formula\nvariables 9\n",
+            Status::Limit,
+            "refused: limit variables 9\n",
+        ),
+        (
+            // malformed empty text
+            &["compile"][..],
+            "",
+            Status::Malformed,
+            "refused: malformed line 1\n",
+        ),
+        (
+            // malformed gated for other commands
+            &["compile"][..],
+            "function gated\nvariables 2\nform x2 if x1\n",
+            Status::Malformed,
+            "refused: malformed line 1\n",
+        ),
+        (
+            // malformed network side missing
+            &["run"][..],
+            "crn 1 dual\nspecies 16\ninput S1 S2\ninput S3 S4\noutput S15 S16\nreactions 13\nS1 -> S5\nS2 -> S6\nS3 -> S7\nS4 -> S8\nS5 -> S9\nS6 -> S10\nS7 -> S11\nS8 -> S12\nS9 -> S13\nS12 -> S13 + S16\nS11 -> S14\nS10 -> S14 + S16\nS13 + S14 ->\n",
+            Status::Malformed,
+            "refused: malformed line 19\n",
+        ),
+        (
+            // malformed network without context
+            &["run"][..],
+            "crn 2 dual\nspecies 14\ninput S1 S2\noutput S13 S14\nreactions 11\nS1 -> S4\nS2 -> S5\nS3 -> S6\nS4 -> S7\nS5 -> S8\nS6 -> 3 S9\nS8 -> S11\nS9 -> S11 + S13\nS10 -> S12\nS7 -> S12 + S13\nS11 + S12 -> S14\namount S3 1\nsegment 3:1\n",
+            Status::Malformed,
+            "refused: malformed line 4\n",
+        ),
+        (
+            // malformed network without its last line
+            &["run"][..],
+            "crn 1 dual\nspecies 16\ninput S1 S2\ninput S3 S4\noutput S15 S16\nreactions 13\nS1 -> S5\nS2 -> S6\nS3 -> S7\nS4 -> S8\nS5 -> S9\nS6 -> S10\nS7 -> S11\nS8 -> S12\nS9 -> S13\nS12 -> S13 + S16\nS11 -> S14\nS10 -> S14 + S16\n",
+            Status::Malformed,
+            "refused: malformed line 19\n",
+        ),
+        (
+            // malformed variable above
+            &["compile"][..],
+            "function formula\nvariables 2\nvalue x3\n",
+            Status::Malformed,
+            "refused: malformed line 3\n",
+        ),
+        (
+            // run affine network
+            &["run"][..],
+            "crn 2 dual\nspecies 14\ninput S1 S2\ncontext S3\noutput S13 S14\nreactions 11\nS1 -> S4\nS2 -> S5\nS3 -> S6\nS4 -> S7\nS5 -> S8\nS6 -> 3 S9\nS8 -> S11\nS9 -> S11 + S13\nS10 -> S12\nS7 -> S12 + S13\nS11 + S12 -> S14\namount S3 1\nsegment 3:1\n",
+            Status::Done,
+            "state\namount S6 1\nplus 0\nminus 0\nvalue 0\n",
+        ),
+        (
+            // run takes more than is there
+            &["run"][..],
+            "crn 1 direct\nspecies 3\ninput S1\noutput S2\nreactions 2\nS1 -> S2\nS1 -> S3\namount S1 1\nsegment 1:2/3 2:2/3\n",
+            Status::Illegal,
+            "refused: segment 1 takes more S1 than is there\n",
+        ),
+        (
+            // run the printed network
+            &["run"][..],
+            "crn 1 dual\nspecies 16\ninput S1 S2\ninput S3 S4\noutput S15 S16\nreactions 13\nS1 -> S5\nS2 -> S6\nS3 -> S7\nS4 -> S8\nS5 -> S9\nS6 -> S10\nS7 -> S11\nS8 -> S12\nS9 -> S13\nS12 -> S13 + S16\nS11 -> S14\nS10 -> S14 + S16\nS13 + S14 -> S15\n",
+            Status::Done,
+            "state\nplus 0\nminus 0\nvalue 0\n",
+        ),
+        (
+            // run two reactions of one species
+            &["run"][..],
+            "crn 1 direct\nspecies 3\ninput S1\noutput S2\nreactions 2\nS1 -> S2\nS1 -> S3\namount S1 1\nsegment 1:1/3 2:2/3\n",
+            Status::Done,
+            "state\namount S2 1/3\namount S3 2/3\nvalue 1/3\n",
+        ),
+    ] {
+        let (status, written) = ran(rt.alloc(), words, text)?;
         assert_eq!(rt; status, wanted, "{text}");
         assert!(rt; written.as_slice() == answer.as_bytes(), "{text}");
     }
@@ -281,7 +412,15 @@ fn refuses_other_words(rt: HostRuntime) -> Result<(), Fail> {
     refused_words(&rt, rt.alloc(), &[""])?;
     refused_words(&rt, rt.alloc(), &["--help"])?;
     refused_words(&rt, rt.alloc(), &["complete", ""])?;
+    refused_words(&rt, rt.alloc(), &["Compile"])?;
+    refused_words(&rt, rt.alloc(), &["compile", "1"])?;
+    refused_words(&rt, rt.alloc(), &["bulk"])?;
     refused_words(&rt, rt.alloc(), &["bulk", "0"])?;
+    refused_words(&rt, rt.alloc(), &["bulk", "01"])?;
+    refused_words(&rt, rt.alloc(), &["bulk", "+1"])?;
+    refused_words(&rt, rt.alloc(), &["bulk", "1001"])?;
+    refused_words(&rt, rt.alloc(), &["bulk", "4294967297"])?;
+    refused_words(&rt, rt.alloc(), &["bulk", "1", "1"])?;
     refused_words(&rt, rt.alloc(), &["complete", "complete"])?;
     Ok(())
 }

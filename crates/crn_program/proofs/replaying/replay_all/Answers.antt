@@ -1,5 +1,5 @@
-use Rattle.crn_program.proofs.Replaying.{first_refused, replayed_more}
-use Rattle.crn_program.proofs.complete.replay_all.Goals as goal
+use Rattle.crn_program.proofs.Replayed.{first_refused, replayed_more}
+use Rattle.crn_program.proofs.replaying.replay_all.Goals as goal
 
 pub returns-in-Err-clause-err : goal.returns-in-Err-clause-err
 returns-in-Err-clause-err c =

@@ -9,7 +9,7 @@ use Rattle.crn_segments.specs.Progress.{Progress}
 use Rattle.crn_segments.specs.Step.{step_refusal}
 use Rattle.crn_segments.specs.Steps.{AreSegments, StepsGo}
 use Rattle.crn_segments.specs.declared.StepError.{StepError}
-use Rattle.crn_program.specs.Answer.{IsRefused}
+use Rattle.crn_program.specs.Runs.{IsRefused}
 
 -- the first i of the segments were made to happen
 pub record Replayed (p : Progress) (us : List (List Flow)) (i : ℕ) (q : Progress) : Type 0 where

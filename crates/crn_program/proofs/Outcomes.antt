@@ -1,0 +1,165 @@
+-- Where given segments lead, and the one outcome that comes of them.
+use Rattle.std.proofs.Common.{◌≡◌, ℕ, suc, ◌+◌, Bool, true, false, cond, List, [], ◌∷◌, ◌++◌, length, None, Some, refl, sym, ap, ap₂, ◌∙◌, subst, arith}
+use Rattle.std.specs.Option.{option_map_or}
+use Rattle.crn_fraction.specs.Rational.{ℚ, ◌-ℚ◌}
+use Rattle.crn_net.specs.Network.{Network, amount, after, after_all, completed}
+use Rattle.crn_net.proofs.Completion.{run_end}
+use Rattle.crn_net.specs.declared.Ends.{Ends}
+use Rattle.crn_net.specs.declared.Ends.TheVariants.{Pair, One}
+use Rattle.crn_net.specs.declared.Flow.{Flow}
+use Rattle.crn_segments.specs.Signs.{is_frac}
+use Rattle.crn_segments.proofs.SignLaws.{frac_is, not_frac_is}
+use Rattle.crn_segments.specs.Step.{step_refusal}
+use Rattle.crn_segments.specs.Steps.{StepsGo}
+use Rattle.crn_segments.specs.declared.StepError.{StepError}
+use Rattle.crn_completer.specs.Refusal.{completion_refusal}
+use Rattle.crn_completer.specs.declared.CompletionTooBig.{CompletionTooBig}
+use Rattle.crn_program.specs.Report.{OutputFits}
+use Rattle.crn_program.specs.Finding.{Outcome, RefusedSegment, Unfinished, NoValue, Completed, Ran, Unmade, Bulked}
+use Rattle.crn_program.specs.Runs.{IsRefused, IsFoundOf, IsFoundOfRun}
+use Rattle.crn_program.specs.Bulk.{halves, halves_refusal}
+use Rattle.crn_program.specs.Answer.{IsFoundOfHalves}
+
+-- ---- where the given segments lead
+
+-- the state that they lead to, or the first that is refused
+data Walk : Type 0 where
+  Reached : List ℚ → Walk
+  Stopped : ℕ → StepError → Walk
+
+walk : Network → List ℚ → ℕ → List (List Flow) → Walk
+walk net a n [] = Reached a
+walk net a n (u ∷ us) = option_map_or (λ e. Stopped (suc n) e) (step_refusal net a u) (walk net (after net a u) (suc n) us)
+
+walk_goes : (net : Network) (a : List ℚ) (n : ℕ) (us : List (List Flow)) (c : List ℚ) → StepsGo net a us c → walk net a n us ≡ Reached c
+unfolding walk
+walk_goes net a n [] c goes = ap Reached (sym goes)
+walk_goes net a n (u ∷ us) c goes = ap (λ o. option_map_or (λ e. Stopped (suc n) e) o (walk net (after net a u) (suc n) us)) goes.0 ∙ walk_goes net (after net a u) (suc n) us c goes.1
+
+walk_stops : (net : Network) (a : List ℚ) (n : ℕ) (before : List (List Flow)) (u : List Flow) (rest : List (List Flow)) (c : List ℚ) (e : StepError) → StepsGo net a before c → step_refusal net c u ≡ Some e
+    → walk net a n (before ++ u ∷ rest) ≡ Stopped (suc (n + length before)) e
+unfolding walk
+walk_stops net a n [] u rest c e goes refused =
+    let here : step_refusal net a u ≡ Some e = subst (λ s. step_refusal net s u ≡ Some e) goes refused in
+    let count : n ≡ n + 0 = omega arith in
+    ap (λ o. option_map_or (λ e. Stopped (suc n) e) o (walk net (after net a u) (suc n) rest)) here ∙ ap (λ k. Stopped (suc k) e) count
+walk_stops net a n (v ∷ before) u rest c e goes refused =
+    let count : suc n + length before ≡ n + suc (length before) = omega arith in
+    ap (λ o. option_map_or (λ e. Stopped (suc n) e) o (walk net (after net a v) (suc n) (before ++ u ∷ rest))) goes.0
+    ∙ walk_stops net (after net a v) (suc n) before u rest c e goes.1 refused ∙ ap (λ k. Stopped (suc k) e) count
+
+walk_refused : (net : Network) (a : List ℚ) (us : List (List Flow)) (t : ℕ) (e : StepError) → IsRefused net a us t e → walk net a 0 us ≡ Stopped t e
+walk_refused net a us t e r =
+    let place : suc (0 + length r.before) ≡ t = omega (arith, r.place) in
+    ap (walk net a 0) r.split ∙ walk_stops net a 0 r.before r.segment r.rest r.state e r.leads r.refused ∙ ap (λ k. Stopped k e) place
+
+-- ---- whether the value of the output fits
+
+output_fits : Ends → List ℚ → Bool
+output_fits (Pair a b) d = is_frac (amount d a -ℚ amount d b)
+output_fits (One a) d = true
+
+fits_is : (e : Ends) (d : List ℚ) → OutputFits e d → output_fits e d ≡ true
+unfolding output_fits
+fits_is (Pair a b) d fits = frac_is _ fits
+fits_is (One a) d fits = refl
+
+unfit_is : (e : Ends) (d : List ℚ) → (OutputFits e d → ⊥) → output_fits e d ≡ false
+unfolding output_fits
+unfit_is (Pair a b) d unfit = not_frac_is _ unfit
+unfit_is (One a) d unfit = absurd (unfit tt)
+
+-- ---- the outcome
+
+-- of the completion from c
+completed_outcome : Network → List ℚ → Outcome
+completed_outcome net c = option_map_or (λ at. Unfinished at) (completion_refusal net c) (cond (output_fits net.output (completed net c)) (Completed net c) NoValue)
+
+-- of the completion from c, in `bulk` of size n after so many segments
+bulked_outcome : Network → (n count : ℕ) → List ℚ → Outcome
+bulked_outcome net n count c = option_map_or (λ at. Unfinished at) (completion_refusal net c) (cond (output_fits net.output (completed net c)) (Bulked n net count c) NoValue)
+
+-- of c itself
+ran_outcome : Network → List ℚ → Outcome
+ran_outcome net c = cond (output_fits net.output c) (Ran net c) NoValue
+
+-- of where the segments lead
+outcome : (List ℚ → Outcome) → Walk → Outcome
+outcome of_state (Reached c) = of_state c
+outcome of_state (Stopped t e) = RefusedSegment t e
+
+-- what comes of segments from a on, and of the completion after them
+pub job_outcome : Network → List ℚ → List (List Flow) → Outcome
+job_outcome net a us = outcome (completed_outcome net) (walk net a 0 us)
+
+-- what comes of segments from a on alone
+pub run_outcome : Network → List ℚ → List (List Flow) → Outcome
+run_outcome net a us = outcome (ran_outcome net) (walk net a 0 us)
+
+reached : (of_state : List ℚ → Outcome) (net : Network) (a : List ℚ) (us : List (List Flow)) (c : List ℚ) → StepsGo net a us c → outcome of_state (walk net a 0 us) ≡ of_state c
+unfolding outcome
+reached of_state net a us c goes = ap (outcome of_state) (walk_goes net a 0 us c goes)
+
+stopped : (of_state : List ℚ → Outcome) (net : Network) (a : List ℚ) (us : List (List Flow)) (t : ℕ) (e : StepError) → IsRefused net a us t e → outcome of_state (walk net a 0 us) ≡ RefusedSegment t e
+unfolding outcome
+stopped of_state net a us t e refused = ap (outcome of_state) (walk_refused net a us t e refused)
+
+-- the completion from c is refused, or its output does not fit, or it does
+unfinished : (net : Network) (c : List ℚ) (at : CompletionTooBig) → completion_refusal net c ≡ Some at → completed_outcome net c ≡ Unfinished at
+unfolding completed_outcome
+unfinished net c at some = ap (λ o. option_map_or (λ e. Unfinished e) o (cond (output_fits net.output (completed net c)) (Completed net c) NoValue)) some
+
+finished : (net : Network) (c : List ℚ) (b : Bool) → completion_refusal net c ≡ None → output_fits net.output (completed net c) ≡ b → completed_outcome net c ≡ cond b (Completed net c) NoValue
+unfolding completed_outcome
+finished net c b none fits =
+    ap (λ o. option_map_or (λ e. Unfinished e) o (cond (output_fits net.output (completed net c)) (Completed net c) NoValue)) none ∙ ap (λ b. cond b (Completed net c) NoValue) fits
+
+ran : (net : Network) (c : List ℚ) (b : Bool) → output_fits net.output c ≡ b → ran_outcome net c ≡ cond b (Ran net c) NoValue
+unfolding ran_outcome
+ran net c b fits = ap (λ b. cond b (Ran net c) NoValue) fits
+
+-- of the segments of `bulk` that are drawn after z, and of the completion after them
+pub halves_outcome : Network → List ℚ → (z n : ℕ) → Outcome
+halves_outcome net a z n = option_map_or (λ r. Unmade r) (halves_refusal net z a) (bulked_outcome net n (length (halves net z a)) (after_all net a (halves net z a)))
+
+bulk_unfinished : (net : Network) (n count : ℕ) (c : List ℚ) (at : CompletionTooBig) → completion_refusal net c ≡ Some at → bulked_outcome net n count c ≡ Unfinished at
+unfolding bulked_outcome
+bulk_unfinished net n count c at some = ap (λ o. option_map_or (λ e. Unfinished e) o (cond (output_fits net.output (completed net c)) (Bulked n net count c) NoValue)) some
+
+bulk_finished : (net : Network) (n count : ℕ) (c : List ℚ) (b : Bool) → completion_refusal net c ≡ None → output_fits net.output (completed net c) ≡ b → bulked_outcome net n count c ≡ cond b (Bulked n net count c) NoValue
+unfolding bulked_outcome
+bulk_finished net n count c b none fits =
+    ap (λ o. option_map_or (λ e. Unfinished e) o (cond (output_fits net.output (completed net c)) (Bulked n net count c) NoValue)) none ∙ ap (λ b. cond b (Bulked n net count c) NoValue) fits
+
+-- ---- there is one
+
+pub found_of_job : (net : Network) (value : ℚ) (a : List ℚ) (us : List (List Flow)) (o : Outcome) → IsFoundOf net value a us o → job_outcome net a us ≡ o
+unfolding job_outcome
+found_of_job net value a us (RefusedSegment t e) found = stopped _ net a us t e found
+found_of_job net value a us (Unfinished at) found = reached _ net a us found.0 found.1 ∙ unfinished net found.0 at found.2
+found_of_job net value a us NoValue found = reached _ net a us found.0 found.1 ∙ finished net found.0 false found.2 (unfit_is _ _ found.3)
+found_of_job net value a us (Completed n c) found =
+    reached _ net a us c found.1.leads ∙ finished net c true found.1.finishes (fits_is _ _ found.1.output_fits) ∙ ap (λ m. Completed m c) (sym found.0)
+found_of_job net value a us _ found = absurd found
+
+pub found_of_run : (net : Network) (a : List ℚ) (us : List (List Flow)) (o : Outcome) → IsFoundOfRun net a us o → run_outcome net a us ≡ o
+unfolding run_outcome
+found_of_run net a us (RefusedSegment t e) found = stopped _ net a us t e found
+found_of_run net a us NoValue found = reached _ net a us found.0 found.1 ∙ ran net found.0 false (unfit_is _ _ found.2)
+found_of_run net a us (Ran n c) found = reached _ net a us c found.1.leads ∙ ran net c true (fits_is _ _ found.1.output_fits) ∙ ap (λ m. Ran m c) (sym found.0)
+found_of_run net a us _ found = absurd found
+
+pub found_of_halves : (net : Network) (value : ℚ) (a : List ℚ) (z n : ℕ) (o : Outcome) → IsFoundOfHalves net value a z n o → halves_outcome net a z n ≡ o
+unfolding halves_outcome
+found_of_halves net value a z n (Unmade r) found = ap (λ x. option_map_or (λ r. Unmade r) x (bulked_outcome net n (length (halves net z a)) (after_all net a (halves net z a)))) found
+found_of_halves net value a z n (Unfinished at) (fits, refused) =
+    ap (λ x. option_map_or (λ r. Unmade r) x (bulked_outcome net n (length (halves net z a)) (after_all net a (halves net z a)))) fits ∙ bulk_unfinished net n _ _ at refused
+found_of_halves net value a z n NoValue (fits, (none, unfit)) =
+    ap (λ x. option_map_or (λ r. Unmade r) x (bulked_outcome net n (length (halves net z a)) (after_all net a (halves net z a)))) fits ∙ bulk_finished net n _ _ false none (unfit_is _ _ unfit)
+found_of_halves net value a z n (Bulked m on count c) (size, same, fits, count_is, is) =
+    let ends : after_all net a (halves net z a) ≡ c = sym (run_end net (halves net z a) a c is.run) in
+    ap (λ x. option_map_or (λ r. Unmade r) x (bulked_outcome net n (length (halves net z a)) (after_all net a (halves net z a)))) fits
+    ∙ ap₂ (λ k d. bulked_outcome net n k d) (sym count_is) ends
+    ∙ bulk_finished net n count c true is.finishes (fits_is _ _ is.output_fits)
+    ∙ ap₂ (λ k on. Bulked k on count c) (sym size) (sym same)
+found_of_halves net value a z n _ found = absurd found.1
