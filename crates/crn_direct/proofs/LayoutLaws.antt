@@ -1,9 +1,9 @@
 -- The direct layout is a network that feeds forward, and stably computes the least value of its forms.
-use Rattle.std.proofs.Common.{◌≡◌, ◌≢◌, ℕ, zero, suc, Bool, true, false, if◌then◌else◌, ◌+◌, ◌<◌, ◌≤◌, List, [], ◌∷◌, ◌++◌, map, length, drop, refl, sym, ◌∙◌, ap, ap₂, subst, arith}
-use Rattle.std.specs.List.{All, fold}
+use Rattle.std.proofs.Common.{◌≡◌, ℕ, zero, suc, Bool, true, false, if◌then◌else◌, ◌+◌, ◌<◌, ◌≤◌, List, [], ◌∷◌, map, length, drop, refl, ◌∙◌, ap, ap₂, arith}
+use Rattle.std.specs.List.{All}
 use Rattle.std.proofs.lemmas.List.Elements.{All-nil, All-cons, All-head, All-tail, All-append}
-use Rattle.crn_fraction.specs.Rational.{ℚ, 0ℚ, ◌≤ℚ◌, min_ℚ, is_zero_ℚ}
-use Rattle.crn_net.specs.Network.{Network, IsNetwork, IsFeedForward, IsApart, StablyComputes, AreAmounts, amount, start, completion, completed, given_to, input_species}
+use Rattle.crn_fraction.specs.Rational.{ℚ, 0ℚ, ◌≤ℚ◌, is_zero_ℚ}
+use Rattle.crn_net.specs.Network.{Network, IsNetwork, IsFeedForward, amount, start, completion, completed, given_to, input_species}
 use Rattle.crn_net.specs.declared.Rails.TheVariants.{Direct}
 use Rattle.crn_net.specs.declared.Ends.TheVariants.{One}
 use Rattle.crn_net.proofs.Completion.{completion_runs, completion_exhausts}
@@ -12,7 +12,7 @@ use Rattle.crn_net.proofs.Start.{amount-start, start_not_negative, pick_yes, pic
 use Rattle.crn_linear.specs.Forms.{at}
 use Rattle.crn_gates.proofs.Chain.{goes_to_end}
 use Rattle.crn_gates.proofs.Drafting.{draft_is_network, direct_past}
-use Rattle.crn_gates.proofs.FanLaws.{fanned_sound, copies_free}
+use Rattle.crn_gates.proofs.FanLaws.{fanned_sound}
 use Rattle.crn_gates.proofs.RailCalls.{fan_one_moves, fan_one_makes}
 use Rattle.crn_gates.proofs.Settled.{start_empty, computes_made_value}
 use Rattle.crn_gates.specs.Building.{IsEmptyAfter}
@@ -23,7 +23,7 @@ use Rattle.crn_gates.specs.Gates.{Built}
 use Rattle.crn_gates.specs.Singles.{rails_after}
 use Rattle.crn_gates.specs.Terms.{nonzero}
 use Rattle.crn_formula.specs.Functions.{least_value}
-use Rattle.crn_direct.specs.Layout.{variables_from, uses_of, copies_for, Laid, leaf_on, least_on, laid_out, direct_layout}
+use Rattle.crn_direct.specs.Layout.{variables_from, uses_of, copies_for, leaf_on, laid_out, direct_layout}
 use Rattle.crn_direct.proofs.Laying.{inputs_at, Holds, leaf_holds, Makes, least_makes}
 
 -- ---- uses

@@ -1,7 +1,7 @@
 -- How many species a layout has at most.
-use Rattle.std.proofs.Common.{◌≡◌, ℕ, zero, suc, ◌+◌, ◌*◌, ◌≤◌, ◌⊎◌, ⊎_elim, Bool, true, false, if◌then◌else◌, List, [], ◌∷◌, length, arith}
+use Rattle.std.proofs.Common.{ℕ, suc, ◌+◌, ◌*◌, ◌≤◌, ⊎_elim, Bool, true, false, if◌then◌else◌, List, [], ◌∷◌, length, arith}
 use Rattle.crn_fraction.specs.Rational.{ℚ, is_zero_ℚ}
-use Rattle.crn_gates.specs.Gates.{Operand, OfPair, OfRail, Built, width_of, factor_of}
+use Rattle.crn_gates.specs.Gates.{Built, width_of, factor_of}
 use Rattle.crn_gates.specs.Drafts.{width_before}
 use Rattle.crn_gates.specs.FanOut.{fanned}
 use Rattle.crn_gates.specs.Terms.{Term, terms_of, terms_from}

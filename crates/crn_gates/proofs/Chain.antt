@@ -1,9 +1,9 @@
 -- Gates one after another: a run that leaves the reactions of all without a reactant does so with those of the earlier ones.
-use Rattle.std.proofs.Common.{◌≡◌, ℕ, ◌+◌, ◌<◌, ◌≤◌, List, [], ◌++◌, length, sym, refl, ◌∙◌, ap, ap₂, arith, length-append, append_assoc, append-nil}
+use Rattle.std.proofs.Common.{◌≡◌, ℕ, ◌+◌, ◌≤◌, List, [], ◌++◌, length, sym, refl, ◌∙◌, ap, ap₂, arith, length-append, append_assoc, append-nil}
 use Rattle.crn_fraction.specs.Rational.{ℚ}
 use Rattle.crn_gates.proofs.GateLaws.{given_all-append}
 use Rattle.crn_gates.proofs.Stamping.{given_new}
-use Rattle.crn_gates.specs.Building.{GoesOn, IsEmptyAfter}
+use Rattle.crn_gates.specs.Building.{GoesOn}
 use Rattle.crn_gates.specs.Calls.{IsMade}
 use Rattle.crn_gates.specs.Gates.{Built, stamped, slot_species, renamed}
 use Rattle.crn_net.specs.Network.{Network, Reaction, IsNetwork, IsFeedForward, IsNotNegative, Run}

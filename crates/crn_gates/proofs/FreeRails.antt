@@ -1,8 +1,8 @@
 -- Free rails of which some are taken: the others stay free.
-use Rattle.std.proofs.Common.{◌≢◌, ℕ, zero, suc, List, [], ◌∷◌, take, drop, sym}
+use Rattle.std.proofs.Common.{ℕ, zero, suc, List, [], ◌∷◌, take, drop, sym}
 use Rattle.crn_net.specs.Network.{IsApart, AreDifferent}
 use Rattle.crn_gates.proofs.BuildingLaws.{free_different}
-use Rattle.crn_gates.specs.Building.{IsFree, AllFree}
+use Rattle.crn_gates.specs.Building.{AllFree}
 use Rattle.crn_gates.specs.Calls.{Moves}
 use Rattle.crn_gates.specs.Gates.{Built}
 

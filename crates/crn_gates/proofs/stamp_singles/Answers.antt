@@ -1,6 +1,6 @@
 use Rattle.std.proofs.Common.{subst, sym, arith}
 use Rattle.crn_fraction.specs.Rational.{0ℚ, ◌<ℚ◌}
-use Rattle.crn_gates.proofs.RailCalls.{positive_numerator, singles_more}
+use Rattle.crn_gates.proofs.RailCalls.{positive_numerator}
 use Rattle.crn_gates.proofs.stamp_singles.Goals as goal
 
 pub stamp_rail-requires : goal.stamp_rail-requires

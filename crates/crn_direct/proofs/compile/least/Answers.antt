@@ -1,8 +1,5 @@
-use Rattle.std.proofs.Common.{suc, ◌+◌, ap, sym, subst, arith, rules, refl}
-use Rattle.std.specs.List.{All}
+use Rattle.std.proofs.Common.{arith, rules}
 use Rattle.std.specs.Vec.Iter.{into_iter_items}
-use Rattle.crn_fraction.specs.Rational.{0ℚ, ◌≤ℚ◌}
-use Rattle.crn_gates.specs.Drafts.{Draft}
 use Rattle.crn_direct.proofs.Compiling.{enough_for, both_free, more_species, goes_next, goes_first, end_network, end_rail}
 use Rattle.crn_direct.proofs.compile.least.Goals as goal
 

@@ -1,4 +1,3 @@
-use Rattle.std.proofs.Common.{drop, length}
 use Rattle.std.specs.Vec.Iter.{into_iter_items}
 use Rattle.crn_direct.proofs.Compiling.{GoesOn}
 use Rattle.crn_direct.proofs.compile.least.Given as goal

@@ -1,4 +1,4 @@
-use Rattle.std.proofs.Common.{arith, rules}
+use Rattle.std.proofs.Common.{arith}
 use Rattle.crn_gates.proofs.RailCalls.{rails_more}
 use Rattle.crn_gates.proofs.fan.rails_after.Goals as goal
 
