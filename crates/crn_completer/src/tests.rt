@@ -108,3 +108,21 @@ fn numbers_that_are_too_big(rt: HostRuntime) -> Result<(), Fail> {
     assert!(rt; completer.flows().is_empty());
     Ok(())
 }
+
+#[test]
+fn the_flux_that_the_reactants_allow(rt: HostRuntime) -> Result<(), Fail> {
+    let network = network(rt.alloc())?;
+    assert!(rt; network.reaction_count() == 3);
+    let (none, one, three) = (fraction(0, 1)?, fraction(1, 1)?, fraction(3, 1)?);
+    let (some, half) = (fraction(5, 2)?, fraction(3, 2)?);
+    let full = state(rt.alloc(), three, some, one)?;
+    assert!(rt; !lacks_reactant(network.reaction(1), &full));
+    assert!(rt; !lacks_reactant(network.reaction(2), &full));
+    assert!(rt; lacks_reactant(network.reaction(3), &full));
+    assert!(rt; least_quotient(network.reaction(1), &full) == Ok(half));
+    assert!(rt; least_quotient(network.reaction(2), &full) == Ok(one));
+    let tiny = state(rt.alloc(), fraction(1, i64::MAX)?, some, none)?;
+    assert!(rt; lacks_reactant(network.reaction(2), &tiny));
+    assert!(rt; least_quotient(network.reaction(1), &tiny) == Err(1));
+    Ok(())
+}
