@@ -468,6 +468,58 @@ fn tells_a_write_that_fails(rt: HostRuntime) -> Result<(), Fail> {
     Ok(())
 }
 
+// The text of the halves is read in nine calls of eight bytes and one that tells its end. Whichever of them fails is told, and a call that is not made fails nothing.
+#[test]
+fn tells_each_read_that_fails(rt: HostRuntime) -> Result<(), Fail> {
+    let words = owned(rt.alloc(), &["complete"])?;
+    for fails in 1..=20u64 {
+        let bytes = HALVES.as_bytes().to_vec(rt.alloc())?;
+        let mut source = MemSource::new(bytes, 8, vec![in rt.alloc(); fails]?);
+        let mut sink = MemSink::new(rt.alloc(), 4096, 1000, Vec::new(rt.alloc()))?;
+        let status = top(rt.alloc(), &words, &mut source, &mut sink);
+        if fails <= 10 {
+            assert_eq!(rt; status, Status::ReadFault, "{fails}");
+            assert_eq!(rt; source.faults(), 1, "{fails}");
+            assert_eq!(rt; sink.written().len(), 0, "{fails}");
+        } else {
+            assert_eq!(rt; status, Status::Done, "{fails}");
+            assert!(rt;
+                sink.written().ends_with(b"value 1\n".as_slice()),
+                "{fails}"
+            );
+        }
+    }
+    Ok(())
+}
+
+// The report of the halves has 245 bytes, written ten at a time. Whichever write fails is told, after the bytes before it.
+#[test]
+fn tells_each_write_that_fails(rt: HostRuntime) -> Result<(), Fail> {
+    let words = owned(rt.alloc(), &["complete"])?;
+    for fails in 1..=40u64 {
+        let mut source = PlainSource::new(HALVES.as_bytes().to_vec(rt.alloc())?);
+        let mut sink = MemSink::new(rt.alloc(), 1000, 10, vec![in rt.alloc(); fails]?)?;
+        let status = top(rt.alloc(), &words, &mut source, &mut sink);
+        if fails <= 25 {
+            assert_eq!(rt; status, Status::WriteFault, "{fails}");
+            assert_eq!(rt; sink.faults(), 1, "{fails}");
+            assert_eq!(rt; sink.written().len() as u64, (fails - 1) * 10, "{fails}");
+        } else {
+            assert_eq!(rt; status, Status::Done, "{fails}");
+            assert!(rt;
+                sink.written().ends_with(b"value 1\n".as_slice()),
+                "{fails}"
+            );
+        }
+    }
+    let mut source = PlainSource::new(HALVES.as_bytes().to_vec(rt.alloc())?);
+    let mut sink = MemSink::new(rt.alloc(), 0, 10, Vec::new(rt.alloc()))?;
+    let status = top(rt.alloc(), &words, &mut source, &mut sink);
+    assert_eq!(rt; status, Status::WriteFault);
+    assert_eq!(rt; sink.written().len(), 0);
+    Ok(())
+}
+
 #[test]
 fn numbers_its_statuses(rt: HostRuntime) {
     for (status, number) in [
