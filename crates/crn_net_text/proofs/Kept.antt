@@ -13,6 +13,7 @@ use Rattle.crn_function_text.specs.Words.{rest_of, says}
 use Rattle.crn_function_text.specs.Grammar.{above, or_else}
 use Rattle.crn_net.specs.Network.{Reaction, Network, IsReaction, IsEnds, AreDifferent, IsApart, IsContext, input_species, numbered}
 use Rattle.crn_net.specs.Inputs.{species_of, AreNew}
+use Rattle.crn_net.specs.Limits.{IsValid}
 use Rattle.crn_net.specs.declared.Rails.{Rails}
 use Rattle.crn_net.specs.declared.Rails.TheVariants.{Dual, Direct}
 use Rattle.crn_net.specs.declared.Ends.{Ends}
@@ -320,3 +321,10 @@ ends (Listing m net) fine = ends_listing m net (some_species net.rails net.speci
 
 pub network_can_end : CanEnd network_table
 network_can_end = can_end network_table IsFine tt (λ s line t fine is. (leads s t (says line) fine is).0) ends
+
+-- ---- the network of a whole text is one that can be made
+pub kept_is_valid : (net : Network) → IsKept (Listing 0 net) → IsValid net
+kept_is_valid net (fine, low) = record {
+  network = fine.network;
+  limits = record { some_species = low.0.0; few_species = low.0.1; few_reactions = omega (arith, low.1); some_input = fine.some_input; few_inputs = low.0.2 };
+}

@@ -11,7 +11,7 @@ ghost use Rattle.crn_net_text.specs.Reading.{place_of, judged, Gives, IsKept};
 use crate::NetTextError;
 use crate::side::{ends_of, one_of, reaction_of};
 use crate::words::{begins, number_at, number_of, rest_of};
-use crn_net::{Ends, Network, Parts, Rails};
+use crn_net::{Ends, Network, NetworkError, Parts, Rails};
 use crn_token::{Counted, Token};
 use std::alloc::Global;
 
@@ -368,6 +368,15 @@ fn listing(
     }
 }
 
+// Parts that lines within the limits gave can only be refused for want of memory.
+fn want_of_memory(error: NetworkError) -> NetTextError
+    requires { error ≡ NetworkError.Memory }
+    ensures { result ≡ NetTextError.Memory }
+{
+    prove!(matches!(error, NetworkError::Memory));
+    NetTextError::Memory
+}
+
 impl Place {
     /// Whether the network is whole.
     pub fn is_whole(&self) -> bool
@@ -422,7 +431,7 @@ impl Place {
         match self {
             Place::Listing(0, parts) => match Network::make(alloc, parts) {
                 Ok(network) => Ok(network),
-                Err(_) => Err(NetTextError::Memory),
+                Err(error) => Err(want_of_memory(error)),
             },
             _ => Err(NetTextError::Malformed { line: end }),
         }

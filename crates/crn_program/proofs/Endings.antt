@@ -1,5 +1,5 @@
 -- Which statuses the texts that are read may have.
-use Rattle.std.proofs.Common.{◌≡◌, ℕ, ◌≤◌, List, length, refl, sym, ap, ◌∙◌, subst, ⊎_elim, inl, inr, arith}
+use Rattle.std.proofs.Common.{◌⊎◌, ◌≡◌, ℕ, ◌≤◌, List, length, refl, sym, ap, ◌∙◌, subst, ⊎_elim, inl, inr, arith}
 use Rattle.crn_fraction.specs.Rational.{ℚ}
 use Rattle.crn_token.specs.declared.Counted.{Counted}
 use Rattle.crn_grammar.specs.Table as grammar
@@ -11,13 +11,14 @@ use Rattle.crn_segments.specs.declared.StepError.{StepError}
 use Rattle.crn_segments.specs.declared.StepError.TheVariants as step
 use Rattle.crn_job.specs.Grammar.{PlainJob}
 use Rattle.crn_job.specs.RunGrammar.{PlainRunJob}
-use Rattle.crn_program.specs.Finding.{Outcome, OtherKind, RefusedSegment, Unfinished, NoValue, Compiled, Completed, Ran, Finding, Comes, status_of, status_of_outcome, status_of_step}
+use Rattle.crn_bulk.specs.Generator.{bulk_job, bulk_number}
+use Rattle.crn_program.specs.Finding.{Outcome, OtherKind, RefusedSegment, Unfinished, NoValue, Compiled, Completed, Ran, Finding, Comes, status_of, status_of_outcome, status_of_step, Unmade, Bulked}
 use Rattle.crn_program.specs.Runs.{IsFoundOf}
-use Rattle.crn_program.specs.Answer.{Answers, IsFound, IsFoundBy, IsFoundInText, IsFoundOfFunction, IsFoundOfJob, IsFoundOfRunJob, IsFunctionAnswer, IsJobAnswer, IsRunAnswer, text_limit}
+use Rattle.crn_program.specs.Answer.{Answers, IsFound, IsFoundBy, IsFoundInText, IsFoundInNothing, IsFoundOfFunction, IsFoundOfJob, IsFoundOfRunJob, IsFoundOfHalves, IsFoundOfBulk, IsFunctionAnswer, IsJobAnswer, IsRunAnswer, text_limit}
 use Rattle.crn_program.specs.Statuses.{IsOfRun}
 use Rattle.crn_program.specs.Words.{IsRow}
 use Rattle.crn_program.specs.declared.words.Command.{Command}
-use Rattle.crn_program.specs.declared.words.Command.TheVariants.{OfText}
+use Rattle.crn_program.specs.declared.words.Command.TheVariants.{OfText, Bulk}
 use Rattle.crn_program.specs.declared.words.TextCommand.TheVariants.{Compile, Complete, Run}
 use Rattle.crn_program.specs.declared.status.Status.{Status}
 use Rattle.crn_program.specs.declared.status.Status.TheVariants as status
@@ -93,3 +94,18 @@ ran words bytes job s text row short read answer =
 
 pub same_network : (job : PlainJob) (net on : Network) (c : List ℚ) → IsFoundOfFunction job.function (Compiled net) → IsFoundOfJob job (Completed on c) → on ≡ net
 same_network job net on c compiled (mesh, value, mesh_is, value_is, (same, done)) = same ∙ one_network job.function mesh net mesh_is compiled.network
+
+of_halves : (net : Network) (value : ℚ) (a : List ℚ) (z n : ℕ) (o : Outcome) → IsFoundOfHalves net value a z n o → (status_of_outcome o ≡ status.Done) ⊎ (status_of_outcome o ≡ status.TooBig)
+of_halves net value a z n (Unmade r) found = inr refl
+of_halves net value a z n (Unfinished at) found = inr refl
+of_halves net value a z n NoValue found = inr refl
+of_halves net value a z n (Bulked m on count c) found = inl refl
+of_halves net value a z n _ found = absurd found.1
+
+of_bulk : (n : ℕ) (bytes : List ℕ) (f : Finding) → IsFoundInNothing (IsFoundOfBulk n) bytes f → (status_of f ≡ status.Done) ⊎ (status_of f ≡ status.TooBig)
+of_bulk n bytes (Comes o) found = of_halves found.0 found.1 (start found.0 (bulk_job n).amounts) (bulk_number n) n o found.4
+of_bulk n bytes _ found = absurd found
+
+pub bulked : (words : List (List ℕ)) (bytes : List ℕ) (n : ℕ) (s : Status) (text : List ℕ) → IsRow (Bulk n) words → Answers words bytes s text → (s ≡ status.Done) ⊎ (s ≡ status.TooBig)
+bulked words bytes n s text row answer =
+    subst (λ t. (t ≡ status.Done) ⊎ (t ≡ status.TooBig)) (sym answer.status_is) (of_bulk n bytes answer.finding (found_by words (Bulk n) bytes answer.finding row answer.found))

@@ -6,6 +6,8 @@ ghost use Rattle.crn_io.specs.Causes.{Rose};
 ghost use Rattle.crn_program.specs.Answer.{Answers};
 ghost use Rattle.crn_program.specs.Words.{ReadNoText};
 ghost use Rattle.crn_program.specs.Told.{Told, AnswersTo, TakesText};
+ghost use Rattle.crn_program.specs.Statuses.{number_of};
+ghost use Rattle.std.specs.Process.{exit_status};
 
 use answer::{Stop, answer};
 use crn_io::{Failed, Sink, Source, StdSink, StdSource, write_all};
@@ -40,6 +42,9 @@ pub fn top<S: Source, K: Sink>(
     // What was written is the text of the answer to what came.
     ensures told { Told (AnswersTo (Answers (map string_bytes words.now)) (S.left source.old)) (K.written sink.old) (K.written sink.new) result }
 
+    // Where there is no answer, nothing is done to the sink.
+    ensures silent { (result ≡ Status.ReadFault) ⊎ (result ≡ Status.Memory) → sink.new ≡ sink.old }
+
     // What was read.
     ensures takes { result ≢ Status.ReadFault → result ≢ Status.Memory → ReadNoText (map string_bytes words.now) ⊎ TakesText (S.left source.old) (S.left source.new) }
     ensures untouched { ReadNoText (map string_bytes words.now) → source.new ≡ source.old }
@@ -70,6 +75,13 @@ fn given_words(rt: &(impl Env + AllocGlobal)) -> Result<Vec<String>, AllocError>
     }
 }
 
+// The exit status that tells how the program ended.
+fn exit_code(status: Status) -> ExitCode
+    ensures { exit_status result ≡ number_of status }
+{
+    ExitCode::from(status.number())
+}
+
 fn main(rt: HostRuntime) -> ExitCode {
     let status = match given_words(&rt) {
         Ok(words) => {
@@ -79,7 +91,7 @@ fn main(rt: HostRuntime) -> ExitCode {
         }
         Err(_) => Status::Memory,
     };
-    ExitCode::from(status.number())
+    exit_code(status)
 }
 
 #[cfg(test)]

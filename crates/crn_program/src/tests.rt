@@ -338,6 +338,97 @@ fn answers_to_other_commands(rt: HostRuntime) -> Result<(), Fail> {
             Status::Done,
             "state\namount S2 1/3\namount S3 2/3\nvalue 1/3\n",
         ),
+        (
+            // bulk 2
+            &["bulk", "2"][..],
+            "",
+            Status::Done,
+            "bulk 2\nspecies 18 reactions 12\nsegments 0\ncompletion 12\nplus 97\nminus 175\nvalue -78\n",
+        ),
+        (
+            // bulk 3
+            &["bulk", "3"][..],
+            "",
+            Status::Done,
+            "bulk 3\nspecies 28 reactions 20\nsegments 2\ncompletion 20\nplus 256\nminus 118\nvalue 138\n",
+        ),
+        (
+            // bulk 10
+            &["bulk", "10"][..],
+            "",
+            Status::Done,
+            "bulk 10\nspecies 72 reactions 67\nsegments 14\ncompletion 67\nplus 925\nminus 763\nvalue 162\n",
+        ),
+        (
+            // run too big value
+            &["run"][..],
+            "crn 1 dual\nspecies 2\ninput S1 S2\noutput S1 S2\nreactions 0\namount S1 1/9223372036854775807\namount S2 1/9223372036854775806\n",
+            Status::TooBig,
+            "refused: too big value\n",
+        ),
+        (
+            // complete too big value
+            &["complete"][..],
+            "function formula\nvariables 1\nvalue x1\ninput 1/9223372036854775807 1/9223372036854775806\n",
+            Status::TooBig,
+            "refused: too big value\n",
+        ),
+        (
+            // run too big in a segment
+            &["run"][..],
+            "crn 1 direct\nspecies 2\ninput S1\noutput S2\nreactions 1\nS1 -> 9223372036854775807 S2\namount S1 2\nsegment 1:2\n",
+            Status::TooBig,
+            "refused: too big in segment 1 at S2\n",
+        ),
+        (
+            // limit pieces
+            &["compile"][..],
+            "function pieces\nvariables 1\npiece x1\npiece x1\npiece x1\npiece x1\npiece x1\npiece x1\npiece x1\npiece x1\npiece x1\npiece x1\npiece x1\npiece x1\npiece x1\npiece x1\npiece x1\npiece x1\npiece x1\npiece x1\npiece x1\npiece x1\npiece x1\npiece x1\npiece x1\npiece x1\npiece x1\npiece x1\npiece x1\npiece x1\npiece x1\npiece x1\npiece x1\npiece x1\npiece x1\n",
+            Status::Limit,
+            "refused: limit pieces 33\n",
+        ),
+        (
+            // limit conditions
+            &["compile"][..],
+            "function pieces\nvariables 1\npiece x1\nwhen x1 >= 0\nwhen x1 >= 0\nwhen x1 >= 0\nwhen x1 >= 0\nwhen x1 >= 0\nwhen x1 >= 0\nwhen x1 >= 0\nwhen x1 >= 0\nwhen x1 >= 0\nwhen x1 >= 0\nwhen x1 >= 0\nwhen x1 >= 0\nwhen x1 >= 0\nwhen x1 >= 0\nwhen x1 >= 0\nwhen x1 >= 0\nwhen x1 >= 0\n",
+            Status::Limit,
+            "refused: limit conditions 17\n",
+        ),
+        (
+            // limit forms
+            &["compile"][..],
+            "function direct\nvariables 1\nform x1\nform x1\nform x1\nform x1\nform x1\nform x1\nform x1\nform x1\nform x1\nform x1\nform x1\nform x1\nform x1\nform x1\nform x1\nform x1\nform x1\nform x1\nform x1\nform x1\nform x1\nform x1\nform x1\nform x1\nform x1\nform x1\nform x1\nform x1\nform x1\nform x1\nform x1\nform x1\nform x1\n",
+            Status::Limit,
+            "refused: limit forms 33\n",
+        ),
+        (
+            // limit all conditions
+            &["compile"][..],
+            "function pieces\nvariables 1\npiece x1\nwhen x1 >= 0\nwhen x1 >= 0\nwhen x1 >= 0\nwhen x1 >= 0\nwhen x1 >= 0\nwhen x1 >= 0\nwhen x1 >= 0\nwhen x1 >= 0\nwhen x1 >= 0\nwhen x1 >= 0\nwhen x1 >= 0\nwhen x1 >= 0\nwhen x1 >= 0\nwhen x1 >= 0\nwhen x1 >= 0\nwhen x1 >= 0\npiece x1\nwhen x1 >= 0\nwhen x1 >= 0\nwhen x1 >= 0\nwhen x1 >= 0\nwhen x1 >= 0\nwhen x1 >= 0\nwhen x1 >= 0\nwhen x1 >= 0\nwhen x1 >= 0\nwhen x1 >= 0\nwhen x1 >= 0\nwhen x1 >= 0\nwhen x1 >= 0\nwhen x1 >= 0\nwhen x1 >= 0\nwhen x1 >= 0\npiece x1\nwhen x1 >= 0\nwhen x1 >= 0\nwhen x1 >= 0\nwhen x1 >= 0\nwhen x1 >= 0\nwhen x1 >= 0\nwhen x1 >= 0\nwhen x1 >= 0\nwhen x1 >= 0\nwhen x1 >= 0\nwhen x1 >= 0\nwhen x1 >= 0\nwhen x1 >= 0\nwhen x1 >= 0\nwhen x1 >= 0\nwhen x1 >= 0\npiece x1\nwhen x1 >= 0\nwhen x1 >= 0\nwhen x1 >= 0\nwhen x1 >= 0\nwhen x1 >= 0\nwhen x1 >= 0\nwhen x1 >= 0\nwhen x1 >= 0\nwhen x1 >= 0\nwhen x1 >= 0\nwhen x1 >= 0\nwhen x1 >= 0\nwhen x1 >= 0\nwhen x1 >= 0\nwhen x1 >= 0\nwhen x1 >= 0\npiece x1\nwhen x1 >= 0\nwhen x1 >= 0\nwhen x1 >= 0\nwhen x1 >= 0\nwhen x1 >= 0\nwhen x1 >= 0\nwhen x1 >= 0\nwhen x1 >= 0\nwhen x1 >= 0\nwhen x1 >= 0\nwhen x1 >= 0\nwhen x1 >= 0\nwhen x1 >= 0\nwhen x1 >= 0\nwhen x1 >= 0\nwhen x1 >= 0\npiece x1\nwhen x1 >= 0\nwhen x1 >= 0\nwhen x1 >= 0\nwhen x1 >= 0\nwhen x1 >= 0\nwhen x1 >= 0\nwhen x1 >= 0\nwhen x1 >= 0\nwhen x1 >= 0\nwhen x1 >= 0\nwhen x1 >= 0\nwhen x1 >= 0\nwhen x1 >= 0\nwhen x1 >= 0\nwhen x1 >= 0\nwhen x1 >= 0\npiece x1\nwhen x1 >= 0\nwhen x1 >= 0\nwhen x1 >= 0\nwhen x1 >= 0\nwhen x1 >= 0\n",
+            Status::Limit,
+            "refused: limit all-conditions 101\n",
+        ),
+        (
+            // limit species
+            &["run"][..],
+            "crn 1 dual\nspecies 65537\n",
+            Status::Limit,
+            "refused: limit species 65537\n",
+        ),
+        (
+            // limit inputs
+            &["run"][..],
+            "crn 1 direct\nspecies 9\ninput S1\ninput S2\ninput S3\ninput S4\ninput S5\ninput S6\ninput S7\ninput S8\ninput S9\n",
+            Status::Limit,
+            "refused: limit inputs 9\n",
+        ),
+        (
+            // limit reactions
+            &["run"][..],
+            "crn 1 direct\nspecies 2\ninput S1\noutput S2\nreactions 65537\n",
+            Status::Limit,
+            "refused: limit reactions 65537\n",
+        ),
     ] {
         let (status, written) = ran(rt.alloc(), words, text)?;
         assert_eq!(rt; status, wanted, "{text}");
@@ -453,6 +544,10 @@ fn tells_a_read_that_fails(rt: HostRuntime) -> Result<(), Fail> {
     assert_eq!(rt; status, Status::ReadFault);
     assert_eq!(rt; source.faults(), 1);
     assert_eq!(rt; sink.written().len(), 0);
+    // Nothing was read after the fault.
+    let mut rest = [0u8; 8];
+    assert_eq!(rt; source.read(&mut rest), Ok(8));
+    assert!(rt; rest.as_slice() == b" formula".as_slice());
     Ok(())
 }
 
