@@ -50,3 +50,16 @@ from_one xs = eq-one_of_dvd-one (common_from-first 1 xs)
 
 pub one_ends : (i g : ℕ) (xs : List ℤ) → g ≡ common (take i xs) → g ≡ 1 → 1 ≡ common xs
 one_ends i g xs e f = sym (from_more i 0 xs ∙ ap (λ n. fold (λ g x. gcd g (unsigned_abs x)) n (drop i xs)) (sym e ∙ f) ∙ from_one (drop i xs))
+
+-- and so of multipliers
+from_more_at : (i n : ℕ) (ms : List (ℕ × ℤ)) → fold (λ g m. gcd g (unsigned_abs m.1)) n ms ≡ fold (λ g m. gcd g (unsigned_abs m.1)) (fold (λ g m. gcd g (unsigned_abs m.1)) n (take i ms)) (drop i ms)
+from_more_at zero n ms = refl
+from_more_at (suc i) n [] = refl
+from_more_at (suc i) n (m ∷ ms) = from_more_at i (gcd n (unsigned_abs m.1)) ms
+
+from_one_at : (ms : List (ℕ × ℤ)) → fold (λ g m. gcd g (unsigned_abs m.1)) 1 ms ≡ 1
+from_one_at [] = refl
+from_one_at (m ∷ ms) = ap (λ n. fold (λ g m. gcd g (unsigned_abs m.1)) n ms) (from_one (m.1 ∷ [])) ∙ from_one_at ms
+
+pub one_stays : (i n g : ℕ) (ms : List (ℕ × ℤ)) → g ≡ fold (λ g m. gcd g (unsigned_abs m.1)) n (take i ms) → g ≡ 1 → 1 ≡ fold (λ g m. gcd g (unsigned_abs m.1)) n ms
+one_stays i n g ms e f = sym (from_more_at i n ms ∙ ap (λ k. fold (λ g m. gcd g (unsigned_abs m.1)) k (drop i ms)) (sym e ∙ f) ∙ from_one_at (drop i ms))

@@ -6,6 +6,8 @@ pub mod Directions
 pub mod Lists
 pub mod Seen
 pub mod Mixed
+pub mod Sparse
+pub mod Combining
 pub mod Exits
 pub mod Turns
 pub mod Parts

@@ -11,6 +11,7 @@ use Rattle.crn_feasible.specs.declared.rows.Ending.{Ending}
 use Rattle.crn_feasible.specs.declared.rows.Ending.TheVariants.{Refuted, TooBig, TooManyRows, Memory}
 use Rattle.crn_feasible.specs.declared.rows.KeptRow.{KeptRow}
 use Rattle.crn_feasible.specs.Steps.{Ends, Certifies, kept_of, row_direction}
+use Rattle.crn_feasible.specs.Sparse.{AreSmallAt}
 use Rattle.crn_feasible.specs.Elimination.{Stop, refuted, passes, too_many, Kept, fits, is_zero, same_direction, kept_with}
 
 tests : (f z s d m : Bool) (rows : List Kept) (r : Kept)
@@ -36,6 +37,10 @@ fit_one x h = below (unsigned_abs x) h.size
 pub all_fit : (xs : List ℤ) → AreSmall xs → list_all fits xs ≡ true
 all_fit [] h = refl
 all_fit (x ∷ xs) h = rw (fit_one x (All-head IsSmall x xs h)) (all_fit xs (All-tail IsSmall x xs h))
+
+pub all_fit_at : (ms : List (ℕ × ℤ)) → AreSmallAt ms → list_all (λ m. fits m.1) ms ≡ true
+all_fit_at [] h = refl
+all_fit_at (m ∷ ms) h = rw (fit_one m.1 (All-head (λ m. IsSmall m.1) m ms h)) (all_fit_at ms (All-tail (λ m. IsSmall m.1) m ms h))
 
 module _ (rows : List Kept) (k : Kept) (fit : list_all fits (k.row.entries ++ k.multipliers) ≡ true) where
   pub ends_refuted : is_zero k ≡ true → k.row.strict ≡ true → kept_with rows k ≡ Err (refuted k.multipliers)
@@ -72,13 +77,13 @@ ends_by TooBig ms r h k = absurd h
 ends_by TooManyRows ms r h k = absurd h
 ends_by Memory ms r h k = tt
 
-pub length-list : (columns : ℕ) (rows : List KeptRow) → length (map (kept_of columns) rows) ≡ length rows
-length-list columns [] = refl
-length-list columns (r ∷ rows) = ap suc (length-list columns rows)
+pub length-list : (columns sources : ℕ) (rows : List KeptRow) → length (map (kept_of columns sources) rows) ≡ length rows
+length-list columns sources [] = refl
+length-list columns sources (r ∷ rows) = ap suc (length-list columns sources rows)
 
-pub list_push : (columns : ℕ) (rows : List KeptRow) (r : KeptRow) → map (kept_of columns) rows ++ kept_of columns r ∷ [] ≡ map (kept_of columns) (rows ++ r ∷ [])
-list_push columns [] r = refl
-list_push columns (x ∷ rows) r = ap (λ t. kept_of columns x ∷ t) (list_push columns rows r)
+pub list_push : (columns sources : ℕ) (rows : List KeptRow) (r : KeptRow) → map (kept_of columns sources) rows ++ kept_of columns sources r ∷ [] ≡ map (kept_of columns sources) (rows ++ r ∷ [])
+list_push columns sources [] r = refl
+list_push columns sources (x ∷ rows) r = ap (λ t. kept_of columns sources x ∷ t) (list_push columns sources rows r)
 
 pub directions_push : (columns : ℕ) (rows : List KeptRow) (r : KeptRow) → map (row_direction columns) rows ++ row_direction columns r ∷ [] ≡ map (row_direction columns) (rows ++ r ∷ [])
 directions_push columns [] r = refl

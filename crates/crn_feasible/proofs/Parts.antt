@@ -1,39 +1,66 @@
 -- What each row gives where a column is eliminated.
-use Rattle.std.proofs.Common.{◌≡◌, ℕ, zero, suc, ◌+◌, ◌-◌, ◌<◌, cond, List, [], ◌∷◌, length, get_or, map, ap, ap₂, ◌∙◌, sym, refl, arith}
+use Rattle.std.proofs.Common.{◌≡◌, ℕ, zero, suc, ◌+◌, ◌-◌, ◌<◌, Bool, true, false, cond, List, [], ◌∷◌, length, get_or, map, ap, ap₂, ◌∙◌, sym, subst, refl, arith}
 use Rattle.crn_linear.specs.Rows.{Row}
 use Rattle.std.specs.Prelude.{pos, int_lt}
-use Rattle.std.specs.List.{flat_map}
+use Rattle.std.specs.List.{All, filter, flat_map}
+use Rattle.std.proofs.Math.ListN.{get_or-map}
+use Rattle.std.proofs.lemmas.List.{length-map}
+use Rattle.std.proofs.lemmas.List.Elements.{All-filter}
 use Rattle.std.specs.Ordering.{int_eq}
 use Rattle.crn_feasible.specs.declared.rows.KeptRow.{KeptRow}
 use Rattle.crn_feasible.specs.Elimination.{Kept, entry, zeros, positives, negatives, combined, unit, started}
-use Rattle.crn_feasible.specs.Steps.{kept_of}
-use Rattle.crn_feasible.proofs.Turns.{flat_map-filter, flat_map-single, flat_map-same}
+use Rattle.crn_feasible.specs.Steps.{kept_of, is_negative_at}
+use Rattle.crn_feasible.proofs.Turns.{flat_map-filter, flat_map-same, entry_there}
 
 -- a row with entry 0 gives itself
-abbrev pub zero_part : (columns v : ℕ) → KeptRow → List Kept
-zero_part columns v r = cond (int_eq (entry v (kept_of columns r)) (pos 0)) (kept_of columns r ∷ []) []
+abbrev pub zero_part : (columns sources v : ℕ) → KeptRow → List Kept
+zero_part columns sources v r = cond (int_eq (entry v (kept_of columns sources r)) (pos 0)) (kept_of columns sources r ∷ []) []
 
-pub zero_parts : (columns v : ℕ) (rows : List KeptRow) → flat_map (zero_part columns v) rows ≡ zeros v (map (kept_of columns) rows)
-zero_parts columns v rows =
-    flat_map-filter (λ k. int_eq (entry v k) (pos 0)) (λ k. k ∷ []) (kept_of columns) rows ∙ flat_map-same (zeros v (map (kept_of columns) rows))
+pub zero_parts : (columns sources v : ℕ) (rows : List KeptRow) → flat_map (zero_part columns sources v) rows ≡ zeros v (map (kept_of columns sources) rows)
+zero_parts columns sources v rows =
+    flat_map-filter (λ k. int_eq (entry v k) (pos 0)) (λ k. k ∷ []) (kept_of columns sources) rows ∙ flat_map-same (zeros v (map (kept_of columns sources) rows))
 
--- a row with a negative entry gives its combination with p
-abbrev pub pair_part : (columns v : ℕ) → Kept → KeptRow → List Kept
-pair_part columns v p r = cond (int_lt (entry v (kept_of columns r)) (pos 0)) (combined v p (kept_of columns r) ∷ []) []
+-- a row with a positive entry gives its combinations with those that have a negative one
+abbrev pub pairs_part : (columns sources v : ℕ) → List Kept → KeptRow → List Kept
+pairs_part columns sources v below r = cond (int_lt (pos 0) (entry v (kept_of columns sources r))) (map (combined v (kept_of columns sources r)) below) []
 
-pub pair_parts : (columns v : ℕ) (p : Kept) (rows : List KeptRow) → flat_map (pair_part columns v p) rows ≡ map (combined v p) (negatives v (map (kept_of columns) rows))
-pair_parts columns v p rows =
-    flat_map-filter (λ k. int_lt (entry v k) (pos 0)) (λ k. combined v p k ∷ []) (kept_of columns) rows ∙ flat_map-single (combined v p) (negatives v (map (kept_of columns) rows))
+pub pairs_parts : (columns sources v : ℕ) (below : List Kept) (rows : List KeptRow)
+    → flat_map (pairs_part columns sources v below) rows ≡ flat_map (λ p. map (combined v p) below) (positives v (map (kept_of columns sources) rows))
+pairs_parts columns sources v below rows = flat_map-filter (λ k. int_lt (pos 0) (entry v k)) (λ p. map (combined v p) below) (kept_of columns sources) rows
 
--- a row with a positive entry gives all of its combinations
-abbrev pub all_pairs : (columns v : ℕ) (rows : List KeptRow) → Kept → List Kept
-all_pairs columns v rows p = map (combined v p) (negatives v (map (kept_of columns) rows))
+-- those that have a negative one
+pub negatives_are : (columns sources v : ℕ) (rows : List KeptRow) → v < columns → map (kept_of columns sources) (filter (is_negative_at v) rows) ≡ negatives v (map (kept_of columns sources) rows)
+negatives_are columns sources v [] h = refl
+negatives_are columns sources v (r ∷ rows) h =
+    by (is_negative_at v r) (int_lt (entry v (kept_of columns sources r)) (pos 0)) (ap (λ x. int_lt x (pos 0)) (entry_there columns sources v r h)) (negatives_are columns sources v rows h)
+  where
+    by : (s t : Bool) → s ≡ t → map (kept_of columns sources) (filter (is_negative_at v) rows) ≡ negatives v (map (kept_of columns sources) rows)
+        → map (kept_of columns sources) (cond s (r ∷ filter (is_negative_at v) rows) (filter (is_negative_at v) rows))
+        ≡ cond t (kept_of columns sources r ∷ negatives v (map (kept_of columns sources) rows)) (negatives v (map (kept_of columns sources) rows))
+    by true true e rest = ap (λ ks. kept_of columns sources r ∷ ks) rest
+    by true false e rest = cc
+    by false true e rest = cc
+    by false false e rest = rest
 
-abbrev pub pairs_part : (columns v : ℕ) (rows : List KeptRow) → KeptRow → List Kept
-pairs_part columns v rows r = cond (int_lt (pos 0) (entry v (kept_of columns r))) (all_pairs columns v rows (kept_of columns r)) []
+module _ {R : Type 0} (now : R → KeptRow) (refs : List R) (rows : List KeptRow) (columns sources v : ℕ) (are : map now refs ≡ filter (is_negative_at v) rows) where
+  -- the combinations of a row with them
+  pub pairs_of : (m n : ℕ) (p : KeptRow) → m ≡ columns → n ≡ sources → v < columns
+      → map (λ r. combined v (kept_of m n p) (kept_of m n (now r))) refs ≡ map (combined v (kept_of columns sources p)) (negatives v (map (kept_of columns sources) rows))
+  pairs_of m n p e f h =
+      let first : Kept = kept_of columns sources p in
+      ap₂ (λ k l. map (λ r. combined v (kept_of k l p) (kept_of k l (now r))) refs) e f ∙ in_turn refs
+      ∙ ap (λ rs. map (combined v first) (map (kept_of columns sources) rs)) are ∙ ap (map (combined v first)) (negatives_are columns sources v rows h)
+    where
+      in_turn : (refs : List R) → map (λ r. combined v (kept_of columns sources p) (kept_of columns sources (now r))) refs ≡ map (combined v (kept_of columns sources p)) (map (kept_of columns sources) (map now refs))
+      in_turn [] = refl
+      in_turn (r ∷ refs) = ap (λ ks. combined v (kept_of columns sources p) (kept_of columns sources (now r)) ∷ ks) (in_turn refs)
 
-pub pairs_parts : (columns v : ℕ) (rows all : List KeptRow) → flat_map (pairs_part columns v all) rows ≡ flat_map (all_pairs columns v all) (positives v (map (kept_of columns) rows))
-pairs_parts columns v rows all = flat_map-filter (λ k. int_lt (pos 0) (entry v k)) (all_pairs columns v all) (kept_of columns) rows
+  -- what holds of all rows holds of them
+  pub among_rows : (P : KeptRow → Type 0) → All P rows → All (λ r. P (now r)) refs
+  among_rows P all = λ k d l.
+      let within : k < length (map now refs) = omega (arith, l, length-map refs now) in
+      let kept : P (get_or (map now refs) k (now d)) = (subst (All P) (sym are) (All-filter (is_negative_at v) P rows all)) k (now d) within in
+      subst P (get_or-map now refs k d) kept
 
 -- ---- the first rows
 pub length-started : (k : ℕ) (rows : List Row) → length (started k rows) ≡ length rows

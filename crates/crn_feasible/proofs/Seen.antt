@@ -18,26 +18,27 @@ use Rattle.crn_feasible.proofs.Lists.{pointwise_padded}
 same_keys : (a b : Direction) → eq-value.it a b ≡ (pointwise int_eq a.entries b.entries && beq a.strict b.strict)
 same_keys a b = refl
 
-length-part : (columns : ℕ) (numbers : List ℤ) → columns ≤ length numbers → length (direction (take columns numbers)) ≡ columns
-length-part columns numbers h = length-direction (take columns numbers) ∙ length-take-le columns numbers h
+length-part : (columns : ℕ) (entries : List ℤ) → columns ≤ length entries → length (direction (take columns entries)) ≡ columns
+length-part columns entries h = length-direction (take columns entries) ∙ length-take-le columns entries h
 
-same_one : (columns : ℕ) (numbers : List ℤ) (strict : Bool) (b : KeptRow) → columns ≤ length numbers → columns ≤ length b.numbers.items
-    → eq-value.it (direction_of (take columns numbers) strict) (row_direction columns b) ≡ same_direction (kept columns numbers strict) (kept_of columns b)
-unfolding same_direction
-same_one columns numbers strict b h k =
-    let la = length-part columns numbers h in
-    let lb = length-part columns b.numbers.items k in
-    let da = direction (take columns numbers) in
-    let db = direction (take columns b.numbers.items) in
-    same_keys (direction_of (take columns numbers) strict) (row_direction columns b)
-    ∙ ap (λ t. t && beq strict b.strict)
-    (ap₂ (λ m n. pointwise int_eq (da ++ replicate (9 - m) (pos 0)) (db ++ replicate (9 - n) (pos 0))) la lb
-    ∙ pointwise_padded (9 - columns) da db (la ∙ sym lb))
+module _ (columns sources : ℕ) (entries : List ℤ) (ms : List (ℕ × ℤ)) (strict : Bool) (h : columns ≤ length entries) where
+  same_one : (b : KeptRow) → columns ≤ length b.entries
+      → eq-value.it (direction_of (take columns entries) strict) (row_direction columns b) ≡ same_direction (kept columns sources entries ms strict) (kept_of columns sources b)
+  unfolding same_direction
+  same_one b k =
+      let la = length-part columns entries h in
+      let lb = length-part columns b.entries k in
+      let da = direction (take columns entries) in
+      let db = direction (take columns b.entries) in
+      same_keys (direction_of (take columns entries) strict) (row_direction columns b)
+      ∙ ap (λ t. t && beq strict b.strict)
+      (ap₂ (λ m n. pointwise int_eq (da ++ replicate (9 - m) (pos 0)) (db ++ replicate (9 - n) (pos 0))) la lb
+      ∙ pointwise_padded (9 - columns) da db (la ∙ sym lb))
 
--- a direction was seen where a row of the list has it
-pub seen_any : (columns : ℕ) (numbers : List ℤ) (strict : Bool) (rows : List KeptRow) → columns ≤ length numbers → All (λ r. columns ≤ length r.numbers.items) rows
-    → list_any (eq-value.it (direction_of (take columns numbers) strict)) (map (row_direction columns) rows) ≡ list_any (same_direction (kept columns numbers strict)) (map (kept_of columns) rows)
-seen_any columns numbers strict [] h all = refl
-seen_any columns numbers strict (r ∷ rows) h all =
-    ap₂ (λ s t. s || t) (same_one columns numbers strict r h (All-head (λ (b : KeptRow). columns ≤ length b.numbers.items) r rows all))
-    (seen_any columns numbers strict rows h (All-tail (λ (b : KeptRow). columns ≤ length b.numbers.items) r rows all))
+  -- a direction was seen where a row of the list has it
+  pub seen_any : (rows : List KeptRow) → All (λ r. columns ≤ length r.entries) rows
+      → list_any (eq-value.it (direction_of (take columns entries) strict)) (map (row_direction columns) rows) ≡ list_any (same_direction (kept columns sources entries ms strict)) (map (kept_of columns sources) rows)
+  seen_any [] all = refl
+  seen_any (r ∷ rows) all =
+      ap₂ (λ s t. s || t) (same_one r (All-head (λ (b : KeptRow). columns ≤ length b.entries) r rows all))
+      (seen_any rows (All-tail (λ (b : KeptRow). columns ≤ length b.entries) r rows all))

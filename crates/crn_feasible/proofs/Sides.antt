@@ -41,17 +41,17 @@ pub append-nil : {A : Type 0} (xs : List A) → xs ++ [] ≡ xs
 append-nil [] = refl
 append-nil (x ∷ xs) = ap (λ t. x ∷ t) (append-nil xs)
 
-module _ (positive : Bool) (columns v : ℕ) (xs : List ℚ) (rows : List KeptRow) (i : ℕ) (r : KeptRow) (l : i < length rows) (e : r ≡ get_or rows i r) where
+module _ (positive : Bool) (columns sources v : ℕ) (xs : List ℚ) (rows : List KeptRow) (i : ℕ) (r : KeptRow) (l : i < length rows) (e : r ≡ get_or rows i r) where
   abbrev so_far : ℕ → List ℚ
-  so_far n = bounds positive v xs (map (kept_of columns) (take n rows))
+  so_far n = bounds positive v xs (map (kept_of columns sources) (take n rows))
 
   -- with one more row
-  pub bounds_more : so_far (i + 1) ≡ so_far i ++ bound_part positive v xs (kept_of columns r)
+  pub bounds_more : so_far (i + 1) ≡ so_far i ++ bound_part positive v xs (kept_of columns sources r)
   bounds_more =
-      ap (λ rs. bounds positive v xs (map (kept_of columns) rs)) (take_more rows i r l ∙ ap (λ s. take i rows ++ s ∷ []) (sym e))
-      ∙ ap (bounds positive v xs) (map-append (kept_of columns) (take i rows) (r ∷ []))
-      ∙ bounds-append positive v xs (map (kept_of columns) (take i rows)) (kept_of columns r ∷ [])
-      ∙ ap (λ t. so_far i ++ t) (bounds-cons positive v xs (kept_of columns r) [] ∙ append-nil (bound_part positive v xs (kept_of columns r)))
+      ap (λ rs. bounds positive v xs (map (kept_of columns sources) rs)) (take_more rows i r l ∙ ap (λ s. take i rows ++ s ∷ []) (sym e))
+      ∙ ap (bounds positive v xs) (map-append (kept_of columns sources) (take i rows) (r ∷ []))
+      ∙ bounds-append positive v xs (map (kept_of columns sources) (take i rows)) (kept_of columns sources r ∷ [])
+      ∙ ap (λ t. so_far i ++ t) (bounds-cons positive v xs (kept_of columns sources r) [] ∙ append-nil (bound_part positive v xs (kept_of columns sources r)))
 
   and_left : (a b : Bool) → a ≡ false → (a && b) ≡ false
   and_left a b h = ap (λ t. t && b) h
@@ -61,13 +61,13 @@ module _ (positive : Bool) (columns v : ℕ) (xs : List ℚ) (rows : List KeptRo
   and_right false b h = refl
 
   -- a bound that is too big
-  pub bound_missed : (q : ℚ) → bound_part positive v xs (kept_of columns r) ≡ q ∷ [] → fits_ℚ q ≡ false → list_all fits_ℚ (bounds positive v xs (map (kept_of columns) rows)) ≡ false
+  pub bound_missed : (q : ℚ) → bound_part positive v xs (kept_of columns sources r) ≡ q ∷ [] → fits_ℚ q ≡ false → list_all fits_ℚ (bounds positive v xs (map (kept_of columns sources) rows)) ≡ false
   bound_missed q p h =
-      let rest = bounds positive v xs (map (kept_of columns) (drop (i + 1) rows)) in
-      let all : bounds positive v xs (map (kept_of columns) rows) ≡ so_far (i + 1) ++ rest =
-      ap (λ rs. bounds positive v xs (map (kept_of columns) rs)) (sym (take-append-drop (i + 1) rows))
-      ∙ ap (bounds positive v xs) (map-append (kept_of columns) (take (i + 1) rows) (drop (i + 1) rows))
-      ∙ bounds-append positive v xs (map (kept_of columns) (take (i + 1) rows)) (map (kept_of columns) (drop (i + 1) rows)) in
+      let rest = bounds positive v xs (map (kept_of columns sources) (drop (i + 1) rows)) in
+      let all : bounds positive v xs (map (kept_of columns sources) rows) ≡ so_far (i + 1) ++ rest =
+      ap (λ rs. bounds positive v xs (map (kept_of columns sources) rs)) (sym (take-append-drop (i + 1) rows))
+      ∙ ap (bounds positive v xs) (map-append (kept_of columns sources) (take (i + 1) rows) (drop (i + 1) rows))
+      ∙ bounds-append positive v xs (map (kept_of columns sources) (take (i + 1) rows)) (map (kept_of columns sources) (drop (i + 1) rows)) in
       let one : list_all fits_ℚ (q ∷ []) ≡ false = ap (λ t. t && true) h in
       let first : list_all fits_ℚ (so_far (i + 1)) ≡ false =
       ap (list_all fits_ℚ) (bounds_more ∙ ap (λ t. so_far i ++ t) p) ∙ list_all-append fits_ℚ (so_far i) (q ∷ []) ∙ and_right (list_all fits_ℚ (so_far i)) (list_all fits_ℚ (q ∷ [])) one in
@@ -85,11 +85,11 @@ value_cut (suc n) zero r (x ∷ xs) h k = absurd (omega arith)
 value_cut (suc n) (suc m) [] (x ∷ xs) h k = refl
 value_cut (suc n) (suc m) (a ∷ r) (x ∷ xs) h k = ap (λ t. whole a *ℚ x +ℚ t) (value_cut n m r xs (omega arith) (omega arith))
 
-pub bound_of : (columns v : ℕ) (xs : List ℚ) (r : KeptRow) (z : ℤ) → v < columns → length xs ≡ v → z ≡ entry v (kept_of columns r)
-    → neg_ℚ (value (take v r.numbers.items) xs) /ℚ whole z ≡ bound v xs (kept_of columns r)
+pub bound_of : (columns sources v : ℕ) (xs : List ℚ) (r : KeptRow) (z : ℤ) → v < columns → length xs ≡ v → z ≡ entry v (kept_of columns sources r)
+    → neg_ℚ (value (take v r.entries) xs) /ℚ whole z ≡ bound v xs (kept_of columns sources r)
 unfolding bound
-bound_of columns v xs r z h l e =
-    ap₂ (λ t w. neg_ℚ t /ℚ whole w) (value_cut v columns r.numbers.items xs (omega (arith, l)) (omega (arith, l, h))) e
+bound_of columns sources v xs r z h l e =
+    ap₂ (λ t w. neg_ℚ t /ℚ whole w) (value_cut v columns r.entries xs (omega (arith, l)) (omega (arith, l, h))) e
 
 -- ---- entries that are not on the side are no divisors
 pub on_side : (positive : Bool) (z : ℤ) → is_on positive z ≡ true → z ≡ pos 0 → ⊥

@@ -8,7 +8,7 @@ use Rattle.std.proofs.Common.{of_z, to_z}
 use Rattle.std.specs.Int.{w64}
 use Rattle.crn_linear.specs.Rows.{IsSmall}
 use Rattle.std.proofs.lemmas.Bool.Decides.{Decides-int_eq}
-use Rattle.std.proofs.lemmas.List.{take_all, take_more, take-append-drop, get_or_read}
+use Rattle.std.proofs.lemmas.List.{take_all, take_more, take-append-drop, length-take-le}
 use Rattle.crn_feasible.specs.declared.rows.Ending.{Ending}
 use Rattle.crn_feasible.specs.declared.rows.Ending.TheVariants.{Refuted, TooBig, TooManyRows, Memory}
 use Rattle.crn_feasible.specs.declared.rows.KeptRow.{KeptRow}
@@ -105,14 +105,14 @@ module _ {X : Type 0} (start : List Kept) (part : X → List Kept) (items : List
   done i now l h = ap (λ xs. take_rows start (flat_map part xs)) (sym (take_all i items l)) ∙ h
 
 -- ---- the tests of a column
-pub entry_there : (columns v : ℕ) (r : KeptRow) (x : ℤ) → v < columns → columns ≤ length r.numbers.items → x ≡ get_or r.numbers.items v x → x ≡ entry v (kept_of columns r)
-entry_there columns v r x h l e = get_or_read r.numbers.items v x (omega (arith, h, l)) e (pos 0) ∙ sym (get_or-take columns v r.numbers.items h)
-  where
-    get_or-take : (n v : ℕ) (xs : List ℤ) → v < n → get_or (take n xs) v (pos 0) ≡ get_or xs v (pos 0)
-    get_or-take zero v xs h = absurd (omega arith)
-    get_or-take (suc n) v [] h = refl
-    get_or-take (suc n) zero (x ∷ xs) h = refl
-    get_or-take (suc n) (suc v) (x ∷ xs) h = get_or-take n v xs (omega arith)
+pub get_or-take : (n v : ℕ) (xs : List ℤ) (d : ℤ) → v < n → get_or (take n xs) v d ≡ get_or xs v d
+get_or-take zero v xs d h = absurd (omega arith)
+get_or-take (suc n) v [] d h = refl
+get_or-take (suc n) zero (x ∷ xs) d h = refl
+get_or-take (suc n) (suc v) (x ∷ xs) d h = get_or-take n v xs d (omega arith)
+
+pub entry_there : (columns sources v : ℕ) (r : KeptRow) → v < columns → get_or r.entries v (pos 0) ≡ entry v (kept_of columns sources r)
+entry_there columns sources v r h = sym (get_or-take columns v r.entries (pos 0) h)
 
 pub is_zero_test : (z : ℤ) → z ≡ pos 0 → int_eq z (pos 0) ≡ true
 is_zero_test z h = (Decides-int_eq z (pos 0)).1 h
@@ -144,30 +144,33 @@ take_single rows k = by (take_row rows k)
     by (Ok a) = refl
     by (Err e) = refl
 
--- a row alone, by its number of columns
-pub alone_taken : (rows : List Kept) (columns same : ℕ) (r : KeptRow) → same ≡ columns
-    → take_row rows (mixed_rows (pos 1) (kept_of same r) (pos 0) (kept_of same r)) ≡ take_rows rows (kept_of columns r ∷ [])
-alone_taken rows columns same r e =
-    ap (take_row rows) (alone (kept_of same r)) ∙ ap (λ n. take_row rows (kept_of n r)) e ∙ sym (take_single rows (kept_of columns r))
+-- a row alone, by its numbers of columns and of rows
+pub alone_taken : (rows : List Kept) (columns sources m n : ℕ) (r : KeptRow) → m ≡ columns → n ≡ sources
+    → take_row rows (mixed_rows (pos 1) (kept_of m n r) (pos 0) (kept_of m n r)) ≡ take_rows rows (kept_of columns sources r ∷ [])
+alone_taken rows columns sources m n r e f =
+    ap (take_row rows) (alone (kept_of m n r)) ∙ ap₂ (λ k l. take_row rows (kept_of k l r)) e f ∙ sym (take_single rows (kept_of columns sources r))
 
 -- two rows combined
-pub pair_taken : (rows : List Kept) (columns same v : ℕ) (p n : KeptRow) (a b : ℤ) → same ≡ columns → a ≡ neg_ℤ (entry v (kept_of columns n)) → b ≡ entry v (kept_of columns p)
-    → take_row rows (mixed_rows a (kept_of same p) b (kept_of same n)) ≡ take_rows rows (combined v (kept_of columns p) (kept_of columns n) ∷ [])
+pub pair_taken : (rows : List Kept) (columns sources l m v : ℕ) (p n : KeptRow) (a b : ℤ) → l ≡ columns → m ≡ sources
+    → a ≡ neg_ℤ (entry v (kept_of columns sources n)) → b ≡ entry v (kept_of columns sources p)
+    → take_row rows (mixed_rows a (kept_of l m p) b (kept_of l m n)) ≡ take_rows rows (combined v (kept_of columns sources p) (kept_of columns sources n) ∷ [])
 unfolding combined
-pair_taken rows columns same v p n a b e f g =
-    ap (λ m. take_row rows (mixed_rows a (kept_of m p) b (kept_of m n))) e
-    ∙ ap₂ (λ x y. take_row rows (mixed_rows x (kept_of columns p) y (kept_of columns n))) f g
-    ∙ sym (take_single rows (mixed_rows (neg_ℤ (entry v (kept_of columns n))) (kept_of columns p) (entry v (kept_of columns p)) (kept_of columns n)))
+pair_taken rows columns sources l m v p n a b e f g h =
+    ap₂ (λ s t. take_row rows (mixed_rows a (kept_of s t p) b (kept_of s t n))) e f
+    ∙ ap₂ (λ x y. take_row rows (mixed_rows x (kept_of columns sources p) y (kept_of columns sources n))) g h
+    ∙ sym (take_single rows (mixed_rows (neg_ℤ (entry v (kept_of columns sources n))) (kept_of columns sources p) (entry v (kept_of columns sources p)) (kept_of columns sources n)))
 
-pub kept_at : (width : ℕ) (rows : List KeptRow) (i : ℕ) (r : KeptRow) → All (IsKeptRow width) rows → i < length rows → r ≡ get_or rows i r → IsKeptRow width r
-kept_at width rows i r h l e = subst (IsKeptRow width) (sym e) (h i r l)
+pub kept_at : (columns sources : ℕ) (rows : List KeptRow) (i : ℕ) (r : KeptRow) → All (IsKeptRow columns sources) rows → i < length rows → r ≡ get_or rows i r → IsKeptRow columns sources r
+kept_at columns sources rows i r h l e = subst (IsKeptRow columns sources) (sym e) (h i r l)
 
 -- a small number by its bits
 pub zero_bits : (x : ℤ) → IsSmall x → of_z w64 x ≡ 0 → x ≡ pos 0
 zero_bits x s e = omega (arith, ints, s.size)
 
-pub small_at : (width v : ℕ) (r : KeptRow) (x : ℤ) → IsKeptRow width r → v < width → x ≡ get_or r.numbers.items v x → IsSmall x
-small_at width v r x k l e = let long : v < length r.numbers.items = omega (arith, k.long) in subst IsSmall (sym e) (k.small v x long)
+pub small_at : (columns sources v : ℕ) (r : KeptRow) → IsKeptRow columns sources r → v < columns → columns ≤ 9 → IsSmall (get_or r.entries v (pos 0))
+small_at columns sources v r k l few =
+    let long : length (take columns r.entries) ≡ columns = length-take-le columns r.entries (omega (arith, few, k.nine)) in
+    subst IsSmall (get_or-take columns v r.entries (pos 0) l) (k.small v (pos 0) (omega (arith, l, long)))
 
 -- and its negative
 pub negated : (x z : ℤ) → IsSmall x → x ≡ z → to_z w64 (of_z w64 (pos 0 -ℤ to_z w64 (of_z w64 x))) ≡ neg_ℤ z

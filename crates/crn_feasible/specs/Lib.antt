@@ -2,3 +2,4 @@ pub mod Elimination
 pub mod Steps
 pub mod Chosen
 pub mod Answers
+pub mod Sparse

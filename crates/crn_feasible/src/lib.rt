@@ -14,6 +14,7 @@ use std::alloc::Global;
 use thiserror::Error;
 
 pub mod laws;
+mod multipliers;
 mod numbers;
 mod rows;
 mod values;

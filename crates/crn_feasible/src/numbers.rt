@@ -2,6 +2,7 @@
 //! two of them, or twice such a product, and fits 128 bits.
 
 ghost use Rattle.std.specs.Prelude.{◌≡◌, ◌≤◌, ◌<◌, ◌^◌, ◌*◌, pos, ◌+ℤ◌, ◌*ℤ◌, false, true, int_div, unsigned_abs, length, MatchOption};
+ghost use Rattle.std.specs.List.{All, fold};
 ghost use Rattle.crn_fraction.specs.Gcd.{gcd};
 ghost use Rattle.crn_fraction.specs.Rational.{ratio};
 ghost use Rattle.crn_linear.specs.Rows.{dot, IsSmall, AreSmall};
@@ -101,6 +102,32 @@ pub fn common_of(a: i64, p: &[i64], b: i64, n: &[i64]) -> u128
         }
         let number = mix(a, p[i], b, n[i]);
         common = gcd(common, number.unsigned_abs());
+    }
+    common
+}
+
+fn common_of_two(common: u128, number: i128) -> u128
+    requires common_small { common ≤ 2 ^ 119 }
+    requires number_small { unsigned_abs number ≤ 2 ^ 119 }
+    ensures value { result ≡ gcd common (unsigned_abs number) }
+    ensures small { result ≤ 2 ^ 119 }
+{
+    gcd(common, number.unsigned_abs())
+}
+
+/// The greatest common divisor of a number and of multipliers.
+pub fn common_with(start: u128, multipliers: &[(usize, i128)]) -> u128
+    requires start_small { start ≤ 2 ^ 119 }
+    requires wide { All (λ m. unsigned_abs m.1 ≤ 2 ^ 119) multipliers.now }
+    ensures value { result ≡ fold (λ g m. gcd g (unsigned_abs m.1)) start multipliers.now }
+    ensures small { result ≤ 2 ^ 119 }
+{
+    let mut common = start;
+    for multiplier in multipliers {
+        if common == 1 {
+            return 1;
+        }
+        common = common_of_two(common, multiplier.1);
     }
     common
 }

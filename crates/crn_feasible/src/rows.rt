@@ -1,19 +1,21 @@
 //! The rows that elimination makes, and the lists that it takes them into.
 
-ghost use Rattle.std.specs.Prelude.{◌≡◌, ◌+◌, ◌≤◌, ◌<◌, ℤ, pos, [], length, map, OnOk, IfOk, IfErr};
-ghost use Rattle.std.specs.List.{All, list_all, flat_map};
+ghost use Rattle.std.specs.Prelude.{◌≡◌, ◌≤◌, ◌<◌, ◌^◌, false, pos, [], length, map, OnOk, IfOk, IfErr, MatchOption};
+ghost use Rattle.std.specs.List.{All, list_all, filter, flat_map};
 ghost use Rattle.std.specs.Ordering.{int_eq};
 ghost use Rattle.crn_linear.specs.Rows.{IsSmall, AreSmall};
-ghost use Rattle.crn_linear.specs.Views.{HasColumns};
+ghost use Rattle.crn_linear.specs.Views.{HasColumns, padded};
 ghost use Rattle.crn_farkas.specs.Mixtures.{mixed};
-ghost use Rattle.crn_feasible.specs.Elimination.{kept_with, take_row, take_rows, zeros, positives, negatives, combined, without, started};
-ghost use Rattle.crn_feasible.specs.Steps.{Goes, Combines, Takes, Certifies, kept, kept_of, list_of, direction_of, first_row, mixed_rows, IsKeptRow, IsList, HasShape};
+ghost use Rattle.crn_feasible.specs.Elimination.{over, fits, kept_with, take_row, take_rows, zeros, positives, negatives, combined, without, started};
+ghost use Rattle.crn_feasible.specs.Steps.{Goes, Combines, Takes, Certifies, kept, kept_of, list_of, direction_of, first_row, mixed_rows, is_negative_at, IsMade, IsKeptRow, IsList, HasShape};
+ghost use Rattle.crn_feasible.specs.Sparse.{spread, IsSparse};
 
-use crate::numbers::{common_of, mix, over, over_divisor};
+use crate::multipliers::{divide_multipliers, mix_multipliers, spread};
+use crate::numbers::{common_of, common_with, mix, over, over_divisor};
 use crn_farkas::{Certificate, System};
 use crn_linear::{Row, Strength};
 use indexmap::IndexSet;
-use std::alloc::Global;
+use std::alloc::{AllocError, Global};
 
 // The greatest number of rows in a list.
 const MAX_ROWS: usize = 4096;
@@ -27,11 +29,30 @@ pub enum Ending {
     Memory,
 }
 
-/// A row that was made of the rows of the system: its entries and then its multipliers, which are divided, tested and combined alike.
+/// A row that was made of the rows of the system.
 #[derive(Drop)]
 pub struct KeptRow {
-    pub numbers: Vec<i64>,
+    /// Nine places, of which those of the columns count.
+    pub entries: [i64; 9],
+    /// The multipliers of the rows of the system that it was made of, each after the place of its row.
+    pub multipliers: Vec<(usize, i64)>,
     pub strict: bool,
+}
+
+/// Room for the multipliers of one combination, before and after they are divided.
+#[derive(Drop)]
+pub struct Buffers {
+    mixed: Vec<(usize, i128)>,
+    divided: Vec<(usize, i64)>,
+}
+
+impl Buffers {
+    fn new(alloc: Global) -> Buffers {
+        Buffers {
+            mixed: Vec::new(alloc),
+            divided: Vec::new(alloc),
+        }
+    }
 }
 
 /// The direction of a row, with 0 in the columns past the last, and its strength.
@@ -41,11 +62,11 @@ pub struct Direction {
     pub strict: bool,
 }
 
-/// Rows of so many columns, no two of one direction and strength.
+/// Rows of so many columns that were made of so many rows of the system, no two of one direction and strength.
 #[derive(Drop)]
 pub struct RowList {
     pub columns: usize,
-    pub width: usize,
+    pub sources: usize,
     pub rows: Vec<KeptRow>,
     pub seen: IndexSet<Direction>,
 }
@@ -72,71 +93,74 @@ fn direction_of(entries: &[i64], strict: bool) -> Direction
     }
 }
 
-// Writes a times the first row plus b times the second, over the greatest common divisor.
-fn combine(out: &mut Vec<i64>, a: i64, p: &[i64], b: i64, n: &[i64]) -> Result<(), Ending>
+// The entries of a times the first row plus b times the second, over a divisor, where each is then small.
+fn divided_entries(a: i64, p: &[i64], b: i64, n: &[i64], divisor: u128) -> Option<[i64; 9]>
     requires a_small { IsSmall a }
     requires b_small { IsSmall b }
     requires first { AreSmall p.now }
     requires second { AreSmall n.now }
     requires same { length p.now ≡ length n.now }
-    ensures { Combines result (mixed a p.now b n.now) out.new.items }
+    requires few { length p.now ≤ 9 }
+    requires divisor { divisor ≤ 2 ^ 119 }
+    ensures { let entries = over divisor (mixed a p.now b n.now) in MatchOption result (list_all fits entries ≡ false) (λ places. (places ≡ padded (pos 0) entries) × AreSmall entries) }
 {
-    let common = common_of(a, p, b, n);
-    out.clear();
+    let mut places = [0i64; 9];
     for i in 0..p.len() {
         let number = mix(a, p[i], b, n[i]);
-        let Some(part) = over_divisor(number, common) else {
-            return Err(Ending::TooBig);
+        let Some(part) = over_divisor(number, divisor) else {
+            return None;
         };
-        if out.push(part).is_err() {
-            return Err(Ending::Memory);
-        }
+        places[i] = part;
     }
-    Ok(())
+    Some(places)
 }
 
-fn refuted(alloc: Global, multipliers: &[i64]) -> Ending
-    requires { AreSmall multipliers.now }
-    ensures { Certifies result multipliers.now }
+fn refuted(alloc: Global, sources: usize, multipliers: &[(usize, i64)]) -> Ending
+    requires { IsSparse sources multipliers.now }
+    ensures { Certifies result (spread 0 sources multipliers.now) }
 {
-    match Vec::from_slice(alloc, multipliers) {
+    match spread(alloc, sources, multipliers) {
         Ok(multipliers) => Ending::Refuted(Certificate::of(multipliers)),
         Err(_) => Ending::Memory,
     }
 }
 
 impl RowList {
-    fn new(alloc: Global, columns: usize, width: usize) -> RowList
+    fn new(alloc: Global, columns: usize, sources: usize) -> RowList
         requires columns { columns ≤ 9 }
-        requires width { columns ≤ width }
         ensures list { IsList result }
-        ensures shape { HasShape result columns width }
+        ensures shape { HasShape result columns sources }
         ensures empty { list_of result ≡ [] }
     {
         RowList {
             columns,
-            width,
+            sources,
             rows: Vec::new(alloc),
             seen: IndexSet::new(alloc),
         }
     }
 
     // Takes a row that was divided already.
-    fn take(&mut self, alloc: Global, numbers: &[i64], strict: bool) -> Result<(), Ending>
-        requires length { length numbers.now ≡ self.old.width }
-        requires small { AreSmall numbers.now }
+    fn take(
+        &mut self,
+        alloc: Global,
+        entries: [i64; 9],
+        multipliers: &[(usize, i64)],
+        strict: bool,
+    ) -> Result<(), Ending>
+        requires made { IsMade self.old.columns self.old.sources entries multipliers.now }
         requires list { IsList self.old }
-        ensures taken { Takes result (kept_with (list_of self.old) (kept self.old.columns numbers.now strict)) self.new }
-        ensures list { OnOk result (IsList self.new × HasShape self.new self.old.columns self.old.width) }
+        ensures taken { Takes result (kept_with (list_of self.old) (kept self.old.columns self.old.sources entries multipliers.now strict)) self.new }
+        ensures list { OnOk result (IsList self.new × HasShape self.new self.old.columns self.old.sources) }
     {
-        let entries = &numbers[..self.columns];
-        if is_zero(entries) {
+        let used = &entries[..self.columns];
+        if is_zero(used) {
             if strict {
-                return Err(refuted(alloc, &numbers[self.columns..]));
+                return Err(refuted(alloc, self.sources, multipliers));
             }
             return Ok(());
         }
-        let Ok((_, added)) = self.seen.insert_full(direction_of(entries, strict)) else {
+        let Ok((_, added)) = self.seen.insert_full(direction_of(used, strict)) else {
             return Err(Ending::Memory);
         };
         if !added {
@@ -145,20 +169,55 @@ impl RowList {
         if self.rows.len() >= MAX_ROWS {
             return Err(Ending::TooManyRows);
         }
-        let Ok(numbers) = Vec::from_slice(alloc, numbers) else {
+        let Ok(multipliers) = Vec::from_slice(alloc, multipliers) else {
             return Err(Ending::Memory);
         };
-        if self.rows.push(KeptRow { numbers, strict }).is_err() {
+        let row = KeptRow {
+            entries,
+            multipliers,
+            strict,
+        };
+        if self.rows.push(row).is_err() {
             return Err(Ending::Memory);
         }
         Ok(())
     }
 
-    // Takes a times the first row plus b times the second, by way of the buffer.
+    // The entries of a times the first row plus b times the second, over the greatest common divisor of all their numbers. The multipliers are written to the buffers.
+    fn combine(
+        &self,
+        buffers: &mut Buffers,
+        a: i64,
+        p: &KeptRow,
+        b: i64,
+        n: &KeptRow,
+    ) -> Result<[i64; 9], Ending>
+        requires a_small { IsSmall a }
+        requires b_small { IsSmall b }
+        requires first { IsKeptRow self.now.columns self.now.sources p.now }
+        requires second { IsKeptRow self.now.columns self.now.sources n.now }
+        requires few { self.now.columns ≤ 9 }
+        ensures { Combines result self.now.columns self.now.sources (mixed_rows a (kept_of self.now.columns self.now.sources p.now) b (kept_of self.now.columns self.now.sources n.now)) buffers.new.divided.items }
+    {
+        let first = &p.entries[..self.columns];
+        let second = &n.entries[..self.columns];
+        let mixed = &mut buffers.mixed;
+        if mix_multipliers(mixed, a, &p.multipliers, b, &n.multipliers).is_err() {
+            return Err(Ending::Memory);
+        }
+        let common = common_with(common_of(a, first, b, second), mixed);
+        let Some(entries) = divided_entries(a, first, b, second, common) else {
+            return Err(Ending::TooBig);
+        };
+        divide_multipliers(&mut buffers.divided, mixed, common)?;
+        Ok(entries)
+    }
+
+    // Takes a times the first row plus b times the second.
     fn take_mixed(
         &mut self,
         alloc: Global,
-        buffer: &mut Vec<i64>,
+        buffers: &mut Buffers,
         a: i64,
         p: &KeptRow,
         b: i64,
@@ -166,55 +225,46 @@ impl RowList {
     ) -> Result<(), Ending>
         requires a_small { IsSmall a }
         requires b_small { IsSmall b }
-        requires first { IsKeptRow self.old.width p.now }
-        requires second { IsKeptRow self.old.width n.now }
+        requires first { IsKeptRow self.old.columns self.old.sources p.now }
+        requires second { IsKeptRow self.old.columns self.old.sources n.now }
         requires list { IsList self.old }
-        ensures taken { Takes result (take_row (list_of self.old) (mixed_rows a (kept_of self.old.columns p.now) b (kept_of self.old.columns n.now))) self.new }
-        ensures list { OnOk result (IsList self.new × HasShape self.new self.old.columns self.old.width) }
+        ensures taken { Takes result (take_row (list_of self.old) (mixed_rows a (kept_of self.old.columns self.old.sources p.now) b (kept_of self.old.columns self.old.sources n.now))) self.new }
+        ensures list { OnOk result (IsList self.new × HasShape self.new self.old.columns self.old.sources) }
     {
-        combine(buffer, a, &p.numbers, b, &n.numbers)?;
-        self.take(alloc, buffer, p.strict || n.strict)
+        let entries = self.combine(buffers, a, p, b, n)?;
+        self.take(alloc, entries, &buffers.divided, p.strict || n.strict)
     }
 }
 
 // The row with multiplier 1 for itself, among so many.
 fn first_row(alloc: Global, row: &Row, index: usize, count: usize) -> Result<KeptRow, Ending>
-    requires index { index < count }
-    requires few { count ≤ 256 }
-    ensures row { IfOk result (λ r. kept_of (length row.now.entries) r ≡ first_row row.now index count) }
-    ensures kept { IfOk result (IsKeptRow (length row.now.entries + count)) }
+    requires { index < count }
+    ensures row { IfOk result (λ r. kept_of (length row.now.entries) count r ≡ first_row row.now index count) }
+    ensures kept { IfOk result (IsKeptRow (length row.now.entries) count) }
     ensures ends { IfErr result (λ e. e ≡ Ending.Memory) }
 {
-    let mut numbers = entries_of(alloc, row)?;
-    let columns = row.len();
-    if numbers.resize(columns + index, 0).is_err() {
-        return Err(Ending::Memory);
-    }
-    if numbers.push(1).is_err() {
-        return Err(Ending::Memory);
-    }
-    if numbers.resize(columns + count, 0).is_err() {
+    let mut multipliers = Vec::new(alloc);
+    if multipliers.push((index, 1)).is_err() {
         return Err(Ending::Memory);
     }
     Ok(KeptRow {
-        numbers,
+        entries: entries_of(row),
+        multipliers,
         strict: row.strength() == Strength::Strict,
     })
 }
 
-fn entries_of(alloc: Global, row: &Row) -> Result<Vec<i64>, Ending>
-    ensures entries { IfOk result (λ v. v.items ≡ row.now.entries) }
+// The entries, and 0 past the last.
+fn entries_of(row: &Row) -> [i64; 9]
+    ensures entries { result ≡ padded (pos 0) row.now.entries }
     ensures small { AreSmall row.now.entries }
     ensures columns { HasColumns row.now.entries }
-    ensures ends { IfErr result (λ e. e ≡ Ending.Memory) }
 {
-    let mut numbers = Vec::new(alloc);
+    let mut places = [0i64; 9];
     for column in 0..row.len() {
-        if numbers.push(row.entry(column)).is_err() {
-            return Err(Ending::Memory);
-        }
+        places[column] = row.entry(column);
     }
-    Ok(numbers)
+    places
 }
 
 /// The rows of the system, taken into the first list.
@@ -224,11 +274,11 @@ pub fn start(alloc: Global, system: &System) -> Result<RowList, Ending>
     ensures shape { IfOk result (λ l. l.columns ≡ system.now.system.columns) }
 {
     let rows = system.rows();
-    let mut list = RowList::new(alloc, system.columns(), system.columns() + rows.len());
-    let mut buffer = Vec::new(alloc);
+    let mut list = RowList::new(alloc, system.columns(), rows.len());
+    let mut buffers = Buffers::new(alloc);
     for i in 0..rows.len() {
         let row = first_row(alloc, &rows[i], i, rows.len())?;
-        list.take_mixed(alloc, &mut buffer, 1, &row, 0, &row)?;
+        list.take_mixed(alloc, &mut buffers, 1, &row, 0, &row)?;
     }
     Ok(list)
 }
@@ -241,29 +291,29 @@ pub fn without(alloc: Global, list: &RowList, v: usize) -> Result<RowList, Endin
     ensures list { IfOk result IsList }
     ensures shape { IfOk result (λ l. l.columns ≡ list.now.columns) }
 {
-    let mut rest = RowList::new(alloc, list.columns, list.width);
-    let mut buffer = Vec::new(alloc);
-    take_zeros(alloc, &mut rest, &mut buffer, &list.rows, v)?;
-    take_pairs(alloc, &mut rest, &mut buffer, &list.rows, v)?;
+    let mut rest = RowList::new(alloc, list.columns, list.sources);
+    let mut buffers = Buffers::new(alloc);
+    take_zeros(alloc, &mut rest, &mut buffers, &list.rows, v)?;
+    take_pairs(alloc, &mut rest, &mut buffers, &list.rows, v)?;
     Ok(rest)
 }
 
 fn take_zeros(
     alloc: Global,
     rest: &mut RowList,
-    buffer: &mut Vec<i64>,
+    buffers: &mut Buffers,
     rows: &[KeptRow],
     v: usize,
 ) -> Result<(), Ending>
     requires column { v < rest.old.columns }
     requires list { IsList rest.old }
-    requires rows { All (IsKeptRow rest.old.width) rows.now }
-    ensures taken { Takes result (take_rows (list_of rest.old) (zeros v (map (kept_of rest.old.columns) rows.now))) rest.new }
-    ensures list { OnOk result (IsList rest.new × HasShape rest.new rest.old.columns rest.old.width) }
+    requires rows { All (IsKeptRow rest.old.columns rest.old.sources) rows.now }
+    ensures taken { Takes result (take_rows (list_of rest.old) (zeros v (map (kept_of rest.old.columns rest.old.sources) rows.now))) rest.new }
+    ensures list { OnOk result (IsList rest.new × HasShape rest.new rest.old.columns rest.old.sources) }
 {
     for row in rows {
-        if row.numbers[v] == 0 {
-            rest.take_mixed(alloc, buffer, 1, row, 0, row)?;
+        if row.entries[v] == 0 {
+            rest.take_mixed(alloc, buffers, 1, row, 0, row)?;
         }
     }
     Ok(())
@@ -272,46 +322,60 @@ fn take_zeros(
 fn take_pairs(
     alloc: Global,
     rest: &mut RowList,
-    buffer: &mut Vec<i64>,
+    buffers: &mut Buffers,
     rows: &[KeptRow],
     v: usize,
 ) -> Result<(), Ending>
     requires column { v < rest.old.columns }
     requires list { IsList rest.old }
-    requires rows { All (IsKeptRow rest.old.width) rows.now }
-    ensures taken { Takes result (take_rows (list_of rest.old) (flat_map (λ p. map (combined v p) (negatives v (map (kept_of rest.old.columns) rows.now))) (positives v (map (kept_of rest.old.columns) rows.now)))) rest.new }
-    ensures list { OnOk result (IsList rest.new × HasShape rest.new rest.old.columns rest.old.width) }
+    requires rows { All (IsKeptRow rest.old.columns rest.old.sources) rows.now }
+    ensures taken { Takes result (take_rows (list_of rest.old) (flat_map (λ p. map (combined v p) (negatives v (map (kept_of rest.old.columns rest.old.sources) rows.now))) (positives v (map (kept_of rest.old.columns rest.old.sources) rows.now)))) rest.new }
+    ensures list { OnOk result (IsList rest.new × HasShape rest.new rest.old.columns rest.old.sources) }
 {
+    let Ok(negatives) = negatives_of(alloc, rows, v) else {
+        return Err(Ending::Memory);
+    };
     for row in rows {
-        if row.numbers[v] > 0 {
-            take_pairs_of(alloc, rest, buffer, row, rows, v)?;
+        if row.entries[v] > 0 {
+            take_pairs_of(alloc, rest, buffers, row, &negatives, v)?;
         }
     }
     Ok(())
 }
 
-// Takes the combinations of one row with each that has a negative entry.
+// The rows with a negative entry, in order.
+fn negatives_of(alloc: Global, rows: &[KeptRow], v: usize) -> Result<Vec<&KeptRow>, AllocError>
+    requires { v < 9 }
+    ensures { IfOk result (λ found. map (λ r. r.now) found.items ≡ filter (is_negative_at v) rows.now) }
+{
+    let mut found = Vec::new(alloc);
+    for row in rows {
+        if row.entries[v] < 0 {
+            found.push(row)?;
+        }
+    }
+    Ok(found)
+}
+
+// Takes the combinations of one row with each of those that have a negative entry.
 fn take_pairs_of(
     alloc: Global,
     rest: &mut RowList,
-    buffer: &mut Vec<i64>,
+    buffers: &mut Buffers,
     p: &KeptRow,
-    rows: &[KeptRow],
+    negatives: &[&KeptRow],
     v: usize,
 ) -> Result<(), Ending>
     requires column { v < rest.old.columns }
     requires list { IsList rest.old }
-    requires rows { All (IsKeptRow rest.old.width) rows.now }
-    requires row { IsKeptRow rest.old.width p.now }
-    ensures taken { Takes result (take_rows (list_of rest.old) (map (combined v (kept_of rest.old.columns p.now)) (negatives v (map (kept_of rest.old.columns) rows.now)))) rest.new }
-    ensures list { OnOk result (IsList rest.new × HasShape rest.new rest.old.columns rest.old.width) }
+    requires rows { All (λ r. IsKeptRow rest.old.columns rest.old.sources r.now) negatives.now }
+    requires row { IsKeptRow rest.old.columns rest.old.sources p.now }
+    ensures taken { Takes result (take_rows (list_of rest.old) (map (λ r. combined v (kept_of rest.old.columns rest.old.sources p.now) (kept_of rest.old.columns rest.old.sources r.now)) negatives.now)) rest.new }
+    ensures list { OnOk result (IsList rest.new × HasShape rest.new rest.old.columns rest.old.sources) }
 {
-    let lead = p.numbers[v];
-    for row in rows {
-        let entry = row.numbers[v];
-        if entry < 0 {
-            rest.take_mixed(alloc, buffer, -entry, p, lead, row)?;
-        }
+    let lead = p.entries[v];
+    for row in negatives {
+        rest.take_mixed(alloc, buffers, -row.entries[v], p, lead, row)?;
     }
     Ok(())
 }

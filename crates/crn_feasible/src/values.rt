@@ -80,9 +80,9 @@ fn bounds(
 {
     let mut all = Vec::new(alloc);
     for row in &rows.rows {
-        let entry = row.numbers[v];
+        let entry = row.entries[v];
         if is_on(positive, entry) {
-            let Some(bound) = bound(&row.numbers[..v], entry, values) else {
+            let Some(bound) = bound(&row.entries[..v], entry, values) else {
                 return Err(Ending::TooBig);
             };
             if all.push(bound).is_err() {

@@ -19,15 +19,15 @@ columns_are c =
     ap (λ (r : Row). length r.entries) (c.index-rows-i.is ∙ ap (λ (rs : List Row). get_or rs i row) value) ∙ c.rows-rows.ensures.valid.rectangular.lengths i row within
 
 -- and is the next of those that are taken
-item : (c : In_ok-row) → kept_of c.args.system.now.system.columns c.in_ok-row.row ≡ get_or (started 0 c.rows-rows.result.now) c.loop-i.i (kept_of c.args.system.now.system.columns c.in_ok-row.row)
+item : (c : In_ok-row) → kept_of c.args.system.now.system.columns (length c.rows-rows.result.now) c.in_ok-row.row ≡ get_or (started 0 c.rows-rows.result.now) c.loop-i.i (kept_of c.args.system.now.system.columns (length c.rows-rows.result.now) c.in_ok-row.row)
 item c =
     let i = c.loop-i.i in
     let rows = c.rows-rows.result.now in
     let row = c.index-rows-i.result in
     let place : i ≡ 0 + i = omega arith in
-    ap (λ n. kept_of n c.in_ok-row.row) (sym (columns_are c)) ∙ c.in_ok-row.ensures.row
+    ap (λ n. kept_of n (length c.rows-rows.result.now) c.in_ok-row.row) (sym (columns_are c)) ∙ c.in_ok-row.ensures.row
     ∙ ap (λ n. record { row = row; multipliers = unit n (length rows - i - 1) }) place
-    ∙ sym (started-at 0 rows i row (kept_of c.args.system.now.system.columns c.in_ok-row.row) c.loop-i-test.true c.index-rows-i.is)
+    ∙ sym (started-at 0 rows i row (kept_of c.args.system.now.system.columns (length c.rows-rows.result.now) c.in_ok-row.row) c.loop-i-test.true c.index-rows-i.is)
 
 below : (c : In_ok-row) → c.loop-i.i < length (started 0 c.rows-rows.result.now)
 below c = omega (arith, c.loop-i-test.true, length-started 0 c.rows-rows.result.now)
@@ -38,25 +38,25 @@ returns-in_err-take_mixed-clause-taken c =
     let columns = c.args.system.now.system.columns in
     let now = list_of c.loop-i.list in
     let e = c.in_err-take_mixed.field-0.0 in
-    let r = kept_of columns c.in_ok-row.row in
+    let r = kept_of columns (length c.rows-rows.result.now) c.in_ok-row.row in
     ends_goes c.from_residual-in_err-take_mixed.result list_of e _ (err_from_is_err_and c.from_residual-in_err-take_mixed.result c.from_residual-in_err-take_mixed.ensures.1)
     (subst (λ ks. Ends (take_rows [] ks) e) (flat_map-same (started 0 c.rows-rows.result.now) ∙ ap (started 0) c.rows-rows.ensures.value)
     (stop [] (λ k. k ∷ []) (started 0 c.rows-rows.result.now) c.loop-i.i r now (r ∷ []) e (below s) (item s) refl c.loop-i.invariant.taken
-    (ends_same _ _ e (alone_taken now columns c.loop-i.list.columns c.in_ok-row.row c.loop-i.invariant.shape.columns_same) c.in_err-take_mixed.ensures.taken)))
+    (ends_same _ _ e (alone_taken now columns (length c.rows-rows.result.now) c.loop-i.list.columns c.loop-i.list.sources c.in_ok-row.row c.loop-i.invariant.shape.columns_same c.loop-i.invariant.shape.sources_same) c.in_err-take_mixed.ensures.taken)))
 
 pub loop-i-preserved : goal.loop-i-preserved
 loop-i-preserved c =
     let s = (goal.at.loop-i-preserved c).In_ok-row in
     let columns = c.args.system.now.system.columns in
     let now = list_of c.loop-i.list in
-    let r = kept_of columns c.in_ok-row.row in
+    let r = kept_of columns (length c.rows-rows.result.now) c.in_ok-row.row in
     record {
       taken = step [] (λ k. k ∷ []) (started 0 c.rows-rows.result.now) c.loop-i.i r now (list_of c.take_mixed.new.self) (r ∷ []) (below s) (item s) refl c.loop-i.invariant.taken
-          (sym (alone_taken now columns c.loop-i.list.columns c.in_ok-row.row c.loop-i.invariant.shape.columns_same) ∙ c.in_ok-take_mixed.ensures.taken);
+          (sym (alone_taken now columns (length c.rows-rows.result.now) c.loop-i.list.columns c.loop-i.list.sources c.in_ok-row.row c.loop-i.invariant.shape.columns_same c.loop-i.invariant.shape.sources_same) ∙ c.in_ok-take_mixed.ensures.taken);
       list = c.in_ok-take_mixed.ensures.list.0;
       shape = record {
         columns_same = c.in_ok-take_mixed.ensures.list.1.columns_same ∙ c.loop-i.invariant.shape.columns_same;
-        width_same = c.in_ok-take_mixed.ensures.list.1.width_same ∙ c.loop-i.invariant.shape.width_same;
+        sources_same = c.in_ok-take_mixed.ensures.list.1.sources_same ∙ c.loop-i.invariant.shape.sources_same;
       };
     }
 

@@ -1,106 +1,80 @@
-use Rattle.std.proofs.Common.{refl, sym, ap, ◌∙◌, ◌≡◌, ◌+◌, [], ◌∷◌, cond, subst, arith, of_z, to_z}
-use Rattle.std.specs.Prelude.{pos, ◌<ℤ◌, ◌≤ℤ◌}
+use Rattle.std.proofs.Common.{◌≡◌, ◌∙◌, ◌∷◌, [], Bor, List, get_or, map, refl, sym, ap, subst, to_z, of_z}
+use Rattle.std.specs.Prelude.{ℤ, pos, neg_ℤ, ◌-ℤ◌}
 use Rattle.std.specs.Int.{w64}
-use Rattle.std.proofs.lemmas.Int.{ints}
+use Rattle.std.specs.List.{flat_map}
 use Rattle.std.proofs.lemmas.Result.{err_from_is_err_and}
 use Rattle.crn_linear.specs.Rows.{IsSmall}
-use Rattle.crn_feasible.specs.declared.rows.RowList.{RowList}
-use Rattle.crn_feasible.specs.Elimination.{Kept, entry, combined, take_rows}
-use Rattle.crn_feasible.specs.Steps.{Ends, kept_of, list_of, IsList, HasShape, IsKeptRow}
+use Rattle.crn_feasible.specs.declared.rows.KeptRow.{KeptRow}
+use Rattle.crn_feasible.specs.Elimination.{Kept, entry, combined, take_row, take_rows}
+use Rattle.crn_feasible.specs.Steps.{Ends, kept_of, list_of, mixed_rows, IsKeptRow}
 use Rattle.crn_feasible.proofs.Exits.{ends_takes}
-use Rattle.crn_feasible.proofs.Turns.{Taken, step, stop, done, ends_same, entry_there, below_test, not_below_test, pair_taken, kept_at, small_at, negated, itself}
-use Rattle.crn_feasible.proofs.Parts.{pair_part, pair_parts}
-use Rattle.crn_feasible.proofs.rows.take_pairs_of.Goals.{After-index-entry, then-entry-lt0+in_ok-take_mixed, else-entry-lt0}
+use Rattle.crn_feasible.proofs.Turns.{step, stop, done, ends_same, flat_map-single, entry_there, small_at, pair_taken, negated, itself}
+use Rattle.crn_feasible.proofs.rows.take_pairs_of.Goals.{After-row-item}
 use Rattle.crn_feasible.proofs.rows.take_pairs_of.Goals as goal
 
-row_kept : (c : After-index-entry) → IsKeptRow c.args.rest.now.width c.row-item.result
-row_kept c = kept_at c.args.rest.now.width c.args.rows.now c.loop-row.row-index c.row-item.result c.requires.rows c.loop-row-test.true c.row-item.is
+abbrev first : After-row-item → Kept
+first c = kept_of c.args.rest.now.columns c.args.rest.now.sources c.args.p.now
 
-abbrev first : After-index-entry → Kept
-first c = kept_of c.args.rest.now.columns c.args.p.now
+abbrev second : After-row-item → Kept
+second c = kept_of c.args.rest.now.columns c.args.rest.now.sources c.row-item.result.now
 
-abbrev second : After-index-entry → Kept
-second c = kept_of c.args.rest.now.columns c.row-item.result
+-- the combination with another row
+abbrev with_first : After-row-item → Bor KeptRow → Kept
+with_first c r = combined c.args.v (first c) (kept_of c.args.rest.now.columns c.args.rest.now.sources r.now)
 
-entry_is : (c : After-index-entry) → c.index-entry.result.now ≡ entry c.args.v (second c)
-entry_is c =
-    let row = row_kept c in
-    entry_there c.args.rest.now.columns c.args.v c.row-item.result c.index-entry.result.now c.requires.column (omega (arith, row.long, c.requires.list.wide)) c.index-entry.ensures
+-- the factors, as the code computes them
+abbrev lead : After-row-item → ℤ
+lead c = to_z w64 (of_z w64 (get_or c.args.p.now.entries c.args.v (pos 0)))
 
-small : (c : After-index-entry) → IsSmall c.index-entry.result.now
-small c = small_at c.args.rest.now.width c.args.v c.row-item.result c.index-entry.result.now (row_kept c) (omega (arith, c.requires.column, c.requires.list.wide)) c.index-entry.ensures
+abbrev below : After-row-item → ℤ
+below c = to_z w64 (of_z w64 (pos 0 -ℤ to_z w64 (of_z w64 (get_or c.row-item.result.now.entries c.args.v (pos 0)))))
 
-lead_is : (c : After-index-entry) → to_z w64 (of_z w64 c.index-lead.result.now) ≡ entry c.args.v (first c)
-lead_is c =
-    itself c.index-lead.result.now (entry c.args.v (first c))
-    (small_at c.args.rest.now.width c.args.v c.args.p.now c.index-lead.result.now c.requires.row (omega (arith, c.requires.column, c.requires.list.wide)) c.index-lead.ensures)
-    (entry_there c.args.rest.now.columns c.args.v c.args.p.now c.index-lead.result.now c.requires.column (omega (arith, c.requires.row.long, c.requires.list.wide)) c.index-lead.ensures)
+small : (c : After-row-item) (r : KeptRow) → IsKeptRow c.args.rest.now.columns c.args.rest.now.sources r → IsSmall (get_or r.entries c.args.v (pos 0))
+small c r kept = small_at c.args.rest.now.columns c.args.rest.now.sources c.args.v r kept c.requires.column c.requires.list.few
 
-gives : (c : After-index-entry) → c.index-entry.result.now <ℤ pos 0 → pair_part c.args.rest.now.columns c.args.v (first c) c.row-item.result ≡ combined c.args.v (first c) (second c) ∷ []
-gives c h =
-    let low : entry c.args.v (second c) <ℤ pos 0 = subst (λ z. z <ℤ pos 0) (entry_is c) h in
-    ap (λ t. cond t (combined c.args.v (first c) (second c) ∷ []) []) (below_test (entry c.args.v (second c)) low)
+there : (c : After-row-item) (r : KeptRow) → get_or r.entries c.args.v (pos 0) ≡ entry c.args.v (kept_of c.args.rest.now.columns c.args.rest.now.sources r)
+there c r = entry_there c.args.rest.now.columns c.args.rest.now.sources c.args.v r c.requires.column
 
-gives_none : (c : After-index-entry) → pos 0 ≤ℤ c.index-entry.result.now → pair_part c.args.rest.now.columns c.args.v (first c) c.row-item.result ≡ []
-gives_none c h =
-    let high : pos 0 ≤ℤ entry c.args.v (second c) = subst (λ z. pos 0 ≤ℤ z) (entry_is c) h in
-    ap (λ t. cond t (combined c.args.v (first c) (second c) ∷ []) []) (not_below_test (entry c.args.v (second c)) high)
+row_kept : (c : After-row-item) → IsKeptRow c.args.rest.now.columns c.args.rest.now.sources c.row-item.result.now
+row_kept c = subst (λ r. IsKeptRow c.args.rest.now.columns c.args.rest.now.sources r.now) (sym c.row-item.is) (c.requires.rows c.loop-row.row-index c.row-item.result c.loop-row-test.true)
 
-pub returns-in_err-take_mixed-clause-taken : goal.returns-in_err-take_mixed-clause-taken
-returns-in_err-take_mixed-clause-taken c =
-    let s = (goal.at.returns-in_err-take_mixed-clause-taken c).After-index-entry in
-    let columns = c.args.rest.now.columns in
-    let v = c.args.v in
-    let now = list_of c.loop-row.rest in
-    let e = c.in_err-take_mixed.field-0.0 in
-    let p = first s in
-    let low : c.index-entry.result.now <ℤ pos 0 = let t = small s in omega (arith, ints, c.if-entry-lt0.true, t.size) in
-    ends_takes c.from_residual.result e _ c.take_mixed.new.self (err_from_is_err_and c.from_residual.result c.from_residual.ensures.1)
-    (subst (λ ks. Ends (take_rows (list_of c.args.rest.now) ks) e) (pair_parts columns v p c.args.rows.now)
-    (stop (list_of c.args.rest.now) (pair_part columns v p) c.args.rows.now c.loop-row.row-index c.row-item.result now (combined v p (second s) ∷ []) e
-    c.loop-row-test.true c.row-item.is (gives s low) c.loop-row.invariant.taken
-    (ends_same _ _ e
-    (pair_taken now columns c.loop-row.rest.columns v c.args.p.now c.row-item.result _ _ c.loop-row.invariant.shape.columns_same (negated c.index-entry.result.now _ (small s) (entry_is s)) (lead_is s))
-    c.in_err-take_mixed.ensures.taken)))
+-- the combination of this turn
+pair_is : (c : After-row-item)
+    → take_row (list_of c.loop-row.rest) (mixed_rows (below c) (kept_of c.loop-row.rest.columns c.loop-row.rest.sources c.args.p.now) (lead c) (kept_of c.loop-row.rest.columns c.loop-row.rest.sources c.row-item.result.now))
+    ≡ take_rows (list_of c.loop-row.rest) (combined c.args.v (first c) (second c) ∷ [])
+pair_is c =
+    pair_taken (list_of c.loop-row.rest) c.args.rest.now.columns c.args.rest.now.sources c.loop-row.rest.columns c.loop-row.rest.sources c.args.v c.args.p.now c.row-item.result.now (below c) (lead c)
+    c.loop-row.invariant.shape.columns_same c.loop-row.invariant.shape.sources_same
+    (negated (get_or c.row-item.result.now.entries c.args.v (pos 0)) (entry c.args.v (second c)) (small c c.row-item.result.now (row_kept c)) (there c c.row-item.result.now))
+    (itself (get_or c.args.p.now.entries c.args.v (pos 0)) (entry c.args.v (first c)) (small c c.args.p.now c.requires.row) (there c c.args.p.now))
 
 pub loop-row-preserved : goal.loop-row-preserved
 loop-row-preserved c =
-    let s = (goal.at.loop-row-preserved c).After-index-entry in
-    let columns = c.args.rest.now.columns in
-    let v = c.args.v in
-    let now = list_of c.loop-row.rest in
-    let start = list_of c.args.rest.now in
-    let i = c.loop-row.row-index in
-    let r = c.row-item.result in
-    let p = first s in
-    elim c.if-entry-lt0.branch [
-      | then-entry-lt0+in_ok-take_mixed w ↦
-          let low : c.index-entry.result.now <ℤ pos 0 = let t = small s in omega (arith, ints, w.if-entry-lt0.true, t.size) in
-          subst (λ (l : RowList). record { taken : Taken start (pair_part columns v p) c.args.rows.now (i + 1) (list_of l); list : IsList l; shape : HasShape l columns c.args.rest.now.width }) (sym w.rest-is)
-          (record {
-            taken = step start (pair_part columns v p) c.args.rows.now i r now (list_of w.take_mixed.new.self) (combined v p (second s) ∷ [])
-                c.loop-row-test.true c.row-item.is (gives s low) c.loop-row.invariant.taken
-                (sym (pair_taken now columns c.loop-row.rest.columns v c.args.p.now r _ _ c.loop-row.invariant.shape.columns_same (negated c.index-entry.result.now _ (small s) (entry_is s)) (lead_is s))
-                ∙ w.in_ok-take_mixed.ensures.taken);
-            list = w.in_ok-take_mixed.ensures.list.0;
-            shape = record {
-              columns_same = w.in_ok-take_mixed.ensures.list.1.columns_same ∙ c.loop-row.invariant.shape.columns_same;
-              width_same = w.in_ok-take_mixed.ensures.list.1.width_same ∙ c.loop-row.invariant.shape.width_same;
-            };
-          })
-      | else-entry-lt0 w ↦
-          let high : pos 0 ≤ℤ c.index-entry.result.now = let t = small s in omega (arith, ints, w.if-entry-lt0.false, t.size) in
-          subst (λ (l : RowList). record { taken : Taken start (pair_part columns v p) c.args.rows.now (i + 1) (list_of l); list : IsList l; shape : HasShape l columns c.args.rest.now.width }) (sym w.rest-is)
-          (record {
-            taken = step start (pair_part columns v p) c.args.rows.now i r now now [] c.loop-row-test.true c.row-item.is (gives_none s high) c.loop-row.invariant.taken refl;
-            list = c.loop-row.invariant.list;
-            shape = c.loop-row.invariant.shape;
-          })
-    ]
+    let s = (goal.at.loop-row-preserved c).After-row-item in
+    let shape = c.loop-row.invariant.shape in
+    record {
+      taken = step (list_of c.args.rest.now) (λ r. with_first s r ∷ []) c.args.negatives.now c.loop-row.row-index c.row-item.result (list_of c.loop-row.rest) (list_of c.take_mixed.new.self) (combined c.args.v (first s) (second s) ∷ [])
+          c.loop-row-test.true c.row-item.is refl c.loop-row.invariant.taken (sym (pair_is s) ∙ c.in_ok-take_mixed.ensures.taken);
+      list = c.in_ok-take_mixed.ensures.list.0;
+      shape = record {
+        columns_same = c.in_ok-take_mixed.ensures.list.1.columns_same ∙ shape.columns_same;
+        sources_same = c.in_ok-take_mixed.ensures.list.1.sources_same ∙ shape.sources_same;
+      };
+    }
+
+pub returns-in_err-take_mixed-clause-taken : goal.returns-in_err-take_mixed-clause-taken
+returns-in_err-take_mixed-clause-taken c =
+    let s = (goal.at.returns-in_err-take_mixed-clause-taken c).After-row-item in
+    let e = c.in_err-take_mixed.field-0.0 in
+    ends_takes c.from_residual.result e _ c.take_mixed.new.self (err_from_is_err_and c.from_residual.result c.from_residual.ensures.1)
+    (subst (λ ks. Ends (take_rows (list_of c.args.rest.now) ks) e) (flat_map-single (with_first s) c.args.negatives.now)
+    (stop (list_of c.args.rest.now) (λ r. with_first s r ∷ []) c.args.negatives.now c.loop-row.row-index c.row-item.result (list_of c.loop-row.rest)
+    (combined c.args.v (first s) (second s) ∷ []) e c.loop-row-test.true c.row-item.is refl c.loop-row.invariant.taken (ends_same _ _ e (pair_is s) c.in_err-take_mixed.ensures.taken)))
 
 pub returns-clause-taken : goal.returns-clause-taken
 returns-clause-taken c =
     let columns = c.args.rest.now.columns in
-    let p = kept_of columns c.args.p.now in
-    ap (take_rows (list_of c.args.rest.now)) (sym (pair_parts columns c.args.v p c.args.rows.now))
-    ∙ done (list_of c.args.rest.now) (pair_part columns c.args.v p) c.args.rows.now c.loop-row.row-index (list_of c.loop-row.rest) c.loop-row-test.false c.loop-row.invariant.taken
+    let sources = c.args.rest.now.sources in
+    let one : Bor KeptRow → Kept = λ r. combined c.args.v (kept_of columns sources c.args.p.now) (kept_of columns sources r.now) in
+    ap (take_rows (list_of c.args.rest.now)) (sym (flat_map-single one c.args.negatives.now))
+    ∙ done (list_of c.args.rest.now) (λ r. one r ∷ []) c.args.negatives.now c.loop-row.row-index (list_of c.loop-row.rest) c.loop-row-test.false c.loop-row.invariant.taken

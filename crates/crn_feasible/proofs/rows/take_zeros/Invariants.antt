@@ -5,7 +5,7 @@ use Rattle.crn_feasible.proofs.rows.take_zeros.Given as goal
 
 abbrev pub invariant-loop-row : goal.invariant-loop-row
 invariant-loop-row l = record {
-  taken : Taken (list_of l.initial.rest) (zero_part l.initial.rest.columns l.v) l.rows l.row-index (list_of l.rest);
+  taken : Taken (list_of l.initial.rest) (zero_part l.initial.rest.columns l.initial.rest.sources l.v) l.rows l.row-index (list_of l.rest);
   list : IsList l.rest;
-  shape : HasShape l.rest l.initial.rest.columns l.initial.rest.width;
+  shape : HasShape l.rest l.initial.rest.columns l.initial.rest.sources;
 }

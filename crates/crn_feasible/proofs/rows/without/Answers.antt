@@ -12,21 +12,25 @@ use Rattle.crn_feasible.proofs.rows.without.Goals as goal
 abbrev pairs : ℕ → List Kept → List Kept
 pairs v rows = flat_map (λ p. map (combined v p) (negatives v rows)) (positives v rows)
 
+seen_same : (k columns n sources : ℕ) (xs ys : List KeptRow) → k ≡ columns → n ≡ sources → xs ≡ ys → map (kept_of k n) xs ≡ map (kept_of columns sources) ys
+seen_same k columns n sources xs ys e f g = ap₂ (λ a b. map (kept_of a b) xs) e f ∙ ap (map (kept_of columns sources)) g
+
 -- what the first call takes
-zeros_are : (c : After-take_zeros) → take_rows (list_of c.new-rest.result) (zeros c.args.v (map (kept_of c.new-rest.result.columns) c.deref.result.now)) ≡ take_rows [] (zeros c.args.v (list_of c.args.list.now))
+zeros_are : (c : After-take_zeros) → take_rows (list_of c.new-rest.result) (zeros c.args.v (map (kept_of c.new-rest.result.columns c.new-rest.result.sources) c.deref.result.now)) ≡ take_rows [] (zeros c.args.v (list_of c.args.list.now))
 zeros_are c =
-    ap (λ l. take_rows l (zeros c.args.v (map (kept_of c.new-rest.result.columns) c.deref.result.now))) c.new-rest.ensures.empty
-    ∙ ap₂ (λ n xs. take_rows [] (zeros c.args.v (map (kept_of n) xs))) c.new-rest.ensures.shape.columns_same c.deref.ensures.value
+    ap (λ l. take_rows l (zeros c.args.v (map (kept_of c.new-rest.result.columns c.new-rest.result.sources) c.deref.result.now))) c.new-rest.ensures.empty
+    ∙ ap (λ rows. take_rows [] (zeros c.args.v rows)) (seen_same _ _ _ _ _ _ c.new-rest.ensures.shape.columns_same c.new-rest.ensures.shape.sources_same c.deref.ensures.value)
 
 -- and the second
 pairs_are : (c : After-take_pairs) →
-    take_rows (list_of c.take_zeros.new.rest) (pairs c.args.v (map (kept_of c.take_zeros.new.rest.columns) c.deref-2.result.now)) ≡ take_rows (list_of c.take_zeros.new.rest) (pairs c.args.v (list_of c.args.list.now))
+    take_rows (list_of c.take_zeros.new.rest) (pairs c.args.v (map (kept_of c.take_zeros.new.rest.columns c.take_zeros.new.rest.sources) c.deref-2.result.now)) ≡ take_rows (list_of c.take_zeros.new.rest) (pairs c.args.v (list_of c.args.list.now))
 pairs_are c =
-    ap₂ (λ n (xs : List KeptRow). take_rows (list_of c.take_zeros.new.rest) (pairs c.args.v (map (kept_of n) xs)))
-    (c.in_ok-take_zeros.ensures.list.1.columns_same ∙ c.new-rest.ensures.shape.columns_same) c.deref-2.ensures.value
+    ap (λ rows. take_rows (list_of c.take_zeros.new.rest) (pairs c.args.v rows))
+    (seen_same _ _ _ _ _ _ (c.in_ok-take_zeros.ensures.list.1.columns_same ∙ c.new-rest.ensures.shape.columns_same)
+    (c.in_ok-take_zeros.ensures.list.1.sources_same ∙ c.new-rest.ensures.shape.sources_same) c.deref-2.ensures.value)
 
 -- all of them
-both : (c : After-take_pairs) → take_rows [] (without c.args.v (list_of c.args.list.now)) ≡ take_rows (list_of c.take_zeros.new.rest) (pairs c.args.v (map (kept_of c.take_zeros.new.rest.columns) c.deref-2.result.now))
+both : (c : After-take_pairs) → take_rows [] (without c.args.v (list_of c.args.list.now)) ≡ take_rows (list_of c.take_zeros.new.rest) (pairs c.args.v (map (kept_of c.take_zeros.new.rest.columns c.take_zeros.new.rest.sources) c.deref-2.result.now))
 both c =
     let rows = list_of c.args.list.now in
     take_rows-append [] (zeros c.args.v rows) (pairs c.args.v rows)

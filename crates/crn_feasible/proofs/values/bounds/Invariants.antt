@@ -7,6 +7,6 @@ use Rattle.crn_feasible.proofs.values.bounds.Given as goal
 
 abbrev pub invariant-loop-row : goal.invariant-loop-row
 invariant-loop-row l = record {
-  value : l.all.items ≡ bounds l.positive l.v l.values.exact.items (map (kept_of l.rows.columns) (take l.row-index l.rows.rows.items));
+  value : l.all.items ≡ bounds l.positive l.v l.values.exact.items (map (kept_of l.rows.columns l.rows.sources) (take l.row-index l.rows.rows.items));
   fit : list_all fits_ℚ l.all.items ≡ true;
 }
