@@ -1,12 +1,11 @@
 -- Combinations of rows, number by number.
-use Rattle.std.proofs.Common.{◌≡◌, ℕ, zero, suc, Bool, true, false, cond, not, List, [], ◌∷◌, ◌++◌, take, drop, Ok, Err, refl, sym, ap, ap₂, ◌∙◌}
-use Rattle.std.specs.Prelude.{ℤ, pos, ◌+ℤ◌, ◌*ℤ◌}
+use Rattle.std.proofs.Common.{◌≡◌, ℕ, Bool, true, false, cond, not, List, [], ◌∷◌, ◌++◌, Ok, Err, ap, ap₂, ◌∙◌}
+use Rattle.std.specs.Prelude.{ℤ, pos}
 use Rattle.std.specs.List.{list_all}
-use Rattle.std.proofs.lemmas.List.{take-append-drop}
-use Rattle.crn_farkas.specs.Mixtures.{times, mixed}
+use Rattle.crn_farkas.specs.Mixtures.{mixed}
 use Rattle.crn_feasible.specs.declared.rows.Ending.{Ending}
 use Rattle.crn_feasible.specs.declared.rows.Ending.TheVariants.{Refuted, TooBig, TooManyRows, Memory}
-use Rattle.crn_feasible.specs.Elimination.{refuted, passes, too_many, Kept, common, over, fits, reduced, kept_with, take_row}
+use Rattle.crn_feasible.specs.Elimination.{refuted, passes, too_many, Kept, fits, reduced, kept_with, take_row}
 use Rattle.crn_feasible.specs.Steps.{Ends, Combines, kept, mixed_rows}
 use Rattle.crn_feasible.proofs.Directions.{mixed-one}
 

@@ -1,15 +1,14 @@
 -- Multipliers with the places of their rows: what is done with them is done with one for each row.
 use Rattle.std.proofs.Common.{◌≡◌, ◌⊎◌, ⊎_elim, inl, inr, ℕ, zero, suc, ◌+◌, ◌-◌, ◌<◌, ◌≤◌, Bool, true, false, cond, ◌&&◌, ◌==◌, List, [], ◌∷◌, ◌++◌, length, get_or, take, drop, map, refl, sym, ap, ap₂, ◌∙◌, subst, arith, append_assoc, length-drop, drop-cons}
-use Rattle.std.specs.Prelude.{ℤ, pos, ◌+ℤ◌, ◌*ℤ◌, int_div, nat_lt, unsigned_abs, replicate}
+use Rattle.std.specs.Prelude.{ℤ, pos, ◌+ℤ◌, ◌*ℤ◌, int_div, nat_lt, replicate}
 use Rattle.std.specs.List.{fold, list_all}
 use Rattle.std.proofs.lemmas.Bool.{eqb-true, eq-eqb, cases_order}
 use Rattle.std.proofs.lemmas.Bool.Decides.{nat_tests, eqb_tells}
 use Rattle.std.proofs.lemmas.Int.{ints}
 use Rattle.std.proofs.lemmas.List.{take_more, take_all, drop_all, append-nil, map-append}
 use Rattle.std.proofs.Math.Nat.{zero-div}
-use Rattle.crn_fraction.specs.Gcd.{gcd}
 use Rattle.crn_farkas.specs.Mixtures.{mixed}
-use Rattle.crn_feasible.specs.Elimination.{common, over, fits}
+use Rattle.crn_feasible.specs.Elimination.{over}
 use Rattle.crn_feasible.specs.Sparse.{spread, Ascend, scaled, sum_of, divided, Mixes}
 
 -- ---- the multiplier at a place, and those after it

@@ -14,10 +14,13 @@ use crn_fraction::Frac;
 /// The greatest size of a number that is kept.
 pub const LIMIT: u128 = 1 << 59;
 
-/// The greatest common divisor. Only the first steps are made in 128 bits.
+/// The greatest common divisor. Only steps with longer numbers are made in 128 bits.
 pub fn gcd(a: u128, b: u128) -> u128
     ensures { result ≡ gcd a b }
 {
+    if a <= u64::MAX as u128 && b <= u64::MAX as u128 {
+        return short_gcd(a as u64, b as u64) as u128;
+    }
     let mut x = a;
     let mut y = b;
     while y > u64::MAX as u128 {
@@ -140,7 +143,12 @@ fn quotient(number: i128, divisor: u128) -> i128
     if divisor == 1 {
         return number;
     }
-    number / divisor as i128
+    let size = number.unsigned_abs();
+    if size > u64::MAX as u128 || divisor > u64::MAX as u128 {
+        return number / divisor as i128;
+    }
+    let part = (size as u64 / divisor as u64) as i128;
+    if number < 0 { -part } else { part }
 }
 
 /// The number over the divisor, where it is at most 2^59 in size, and 0 over 0.

@@ -1,4 +1,4 @@
-use Rattle.std.proofs.Common.{◌≡◌, ◌++◌, ◌∙◌, ap, ap₂, map, take, to_z, of_z, arith, ◌≤◌, ◌^◌}
+use Rattle.std.proofs.Common.{◌++◌, ◌∙◌, ap₂, map, to_z, of_z, ◌≤◌, ◌^◌}
 use Rattle.std.specs.Prelude.{ℤ, pos, unsigned_abs}
 use Rattle.std.specs.Int.{w64}
 use Rattle.std.specs.List.{All}

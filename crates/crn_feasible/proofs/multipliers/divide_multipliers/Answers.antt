@@ -1,4 +1,4 @@
-use Rattle.std.proofs.Common.{◌≡◌, ◌∙◌, ◌<◌, ap, map, length, arith}
+use Rattle.std.proofs.Common.{◌∙◌, ◌<◌, ap, map, length, arith}
 use Rattle.std.specs.Prelude.{pos}
 use Rattle.std.proofs.Math.ListN.{get_or-map}
 use Rattle.std.proofs.lemmas.List.{length-map}

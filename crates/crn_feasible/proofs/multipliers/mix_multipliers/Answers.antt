@@ -1,9 +1,8 @@
-use Rattle.std.proofs.Common.{◌≡◌, ◌⊎◌, ◌++◌, ◌∷◌, ◌<◌, ◌≤◌, ◌^◌, ◌∙◌, ℕ, List, [], length, drop, map, inl, inr, ap, ap₂, sym, subst, to_z, of_z, arith, refl, append_assoc, Err, Ok, Result}
+use Rattle.std.proofs.Common.{◌≡◌, ◌⊎◌, ◌++◌, ◌∷◌, ◌≤◌, ◌^◌, ℕ, List, [], length, inl, inr, sym, subst, to_z, of_z, arith, refl, Err, Ok, Result}
 use Rattle.std.specs.Prelude.{ℤ, pos, unsigned_abs, OnOk}
 use Rattle.std.specs.Int.{w64}
 use Rattle.std.specs.List.{All}
 use Rattle.std.proofs.lemmas.Int.{to_z-of_z}
-use Rattle.std.proofs.lemmas.List.{drop_all}
 use Rattle.std.proofs.lemmas.List.Elements.{All-push}
 use Rattle.crn_feasible.specs.Sparse.{Mixes}
 use Rattle.crn_feasible.proofs.Sparse.{first_next, second_next, both_next, mixes-ended}

@@ -1,4 +1,4 @@
-use Rattle.std.proofs.Common.{◌≡◌, ◌++◌, ◌-◌, ◌≤◌, drop, length}
+use Rattle.std.proofs.Common.{◌≡◌, ◌++◌, ◌-◌, drop}
 use Rattle.crn_linear.specs.Rows.{AreSmall}
 use Rattle.crn_feasible.specs.Sparse.{spread}
 use Rattle.crn_feasible.proofs.multipliers.spread.Given as goal

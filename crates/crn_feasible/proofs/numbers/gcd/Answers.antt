@@ -10,4 +10,4 @@ pub returns-then-y-eq0 : goal.returns-then-y-eq0
 returns-then-y-eq0 c = sym (gcd_end c.loop-y.x) ∙ ap (gcd c.loop-y.x) (sym c.if-y-eq0.true) ∙ c.loop-y.invariant
 
 pub returns : goal.returns
-returns c = c.short_gcd.ensures ∙ gcd_step _ _ ∙ c.loop-y.invariant
+returns c = c.short_gcd-2.ensures ∙ gcd_step _ _ ∙ c.loop-y.invariant

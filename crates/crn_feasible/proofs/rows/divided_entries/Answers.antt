@@ -1,6 +1,6 @@
-use Rattle.std.proofs.Common.{arith, rules, refl, ◌≡◌, ◌<◌, ◌+◌, ◌∙◌, List, [], ◌∷◌, ◌++◌, length, take, sym, ap, ap₂, subst, to_z, of_z, SFits, get_or, false}
-use Rattle.std.specs.Prelude.{ℤ, pos, ◌+ℤ◌, ◌*ℤ◌, int_div, replicate}
-use Rattle.std.specs.List.{All, list_all}
+use Rattle.std.proofs.Common.{arith, rules, refl, ◌≡◌, ◌∙◌, List, length, sym, ap, ap₂, subst, to_z, of_z, SFits, get_or, false}
+use Rattle.std.specs.Prelude.{ℤ, pos, ◌+ℤ◌, ◌*ℤ◌, int_div}
+use Rattle.std.specs.List.{list_all}
 use Rattle.std.specs.Int.{w64, w128}
 use Rattle.std.proofs.lemmas.Int.{to_z-of_z}
 use Rattle.std.proofs.lemmas.List.{take_all}

@@ -1,4 +1,4 @@
-use Rattle.std.proofs.Common.{arith, ◌∙◌}
+use Rattle.std.proofs.Common.{arith}
 use Rattle.std.specs.Prelude.{pos}
 use Rattle.crn_linear.proofs.Padding.{padding_step}
 use Rattle.crn_feasible.proofs.Turns.{itself}

@@ -1,7 +1,5 @@
-use Rattle.std.proofs.Common.{arith, rules, refl, ◌≡◌, ◌∙◌, ◌+◌, ◌-◌, ◌∷◌, ◌++◌, [], Bool, List, ℕ, ap, ap₂, sym, length}
+use Rattle.std.proofs.Common.{arith, rules, ◌≡◌, ◌∙◌, ◌+◌, ◌-◌, ◌∷◌, ◌++◌, [], Bool, List, ap}
 use Rattle.std.specs.Prelude.{ℤ, pos}
-use Rattle.std.proofs.lemmas.Grind.{common_steps}
-use Rattle.crn_linear.specs.Rows.{Row}
 use Rattle.crn_linear.proofs.Padding.{seen}
 use Rattle.crn_feasible.specs.Elimination.{Kept, unit}
 use Rattle.crn_feasible.specs.Sparse.{spread}

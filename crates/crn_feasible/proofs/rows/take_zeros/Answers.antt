@@ -1,4 +1,4 @@
-use Rattle.std.proofs.Common.{refl, get_or, sym, ◌+◌, ap, ◌∙◌, ◌≡◌, [], ◌∷◌, cond, subst, arith, of_z}
+use Rattle.std.proofs.Common.{refl, get_or, sym, ◌+◌, ap, ◌∙◌, ◌≡◌, [], ◌∷◌, cond, subst, of_z}
 use Rattle.std.specs.Int.{w64}
 use Rattle.std.specs.Prelude.{ℤ, pos}
 use Rattle.crn_linear.specs.Rows.{IsSmall}

@@ -1,4 +1,4 @@
-use Rattle.std.proofs.Common.{arith, refl, map, ◌≡◌, ◌++◌, ◌∙◌, ap, sym, subst, true, false, Bool, cond, List, ℕ, Result, Ok, Err, to_z, of_z}
+use Rattle.std.proofs.Common.{map, ◌≡◌, ◌++◌, ◌∙◌, ap, sym, subst, true, false, Bool, List, ℕ, Result, Ok, Err, to_z, of_z}
 use Rattle.std.specs.Prelude.{ℤ, OnOk}
 use Rattle.std.specs.Int.{w64}
 use Rattle.std.specs.Result.{is_err}

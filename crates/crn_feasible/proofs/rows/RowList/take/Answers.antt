@@ -1,4 +1,4 @@
-use Rattle.std.proofs.Common.{arith, refl, Ok, ℕ, Bool, true, false, not, List, [], ◌∷◌, ◌++◌, length, take, map, sym, ap, ap₂, ◌∙◌, ◌≡◌, ◌≤◌, subst}
+use Rattle.std.proofs.Common.{arith, refl, Ok, ℕ, Bool, true, false, not, List, [], ◌∷◌, ◌++◌, length, map, sym, ap, ap₂, ◌∙◌, ◌≡◌, ◌≤◌, subst}
 use Rattle.std.specs.Prelude.{if◌then◌else◌}
 use Rattle.std.specs.List.{All, list_all, list_any}
 use Rattle.std.proofs.lemmas.List.Elements.{All-push}
@@ -7,7 +7,7 @@ use Rattle.crn_feasible.specs.contracts.rows.DirectionPartialEq.TheImpl.{eq-valu
 use Rattle.crn_feasible.specs.Elimination.{fits, is_zero, same_direction, Kept}
 use Rattle.crn_feasible.specs.declared.rows.KeptRow.{KeptRow}
 use Rattle.crn_feasible.specs.Sparse.{spread}
-use Rattle.crn_feasible.specs.Steps.{kept, kept_of, list_of, row_direction, direction_of, IsMade, IsKeptRow}
+use Rattle.crn_feasible.specs.Steps.{kept, kept_of, list_of, row_direction, IsMade, IsKeptRow}
 use Rattle.crn_feasible.proofs.Combining.{made_fits}
 use Rattle.crn_feasible.proofs.Lists.{ends_refuted, drops_zero, drops_same, ends_full, appends, ends_by, length-list, list_push, directions_push, at_least_full, below_full}
 use Rattle.crn_feasible.proofs.Seen.{seen_any}
