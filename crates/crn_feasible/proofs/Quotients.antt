@@ -1,12 +1,11 @@
 -- The division of a 128-bit number, as the code computes it.
-use Rattle.std.proofs.Common.{◌≡◌, ⊎_elim, ℕ, zero, suc, ◌+◌, ◌<◌, ◌≤◌, ◌^◌, Bool, true, false, List, [], ◌∷◌, ◌++◌, length, get_or, take, refl, sym, ap, ap₂, ◌∙◌, arith, to_z, of_z, SFits}
+use Rattle.std.proofs.Common.{◌≡◌, ⊎_elim, ℕ, zero, suc, ◌<◌, ◌≤◌, ◌^◌, Bool, true, false, List, [], ◌∷◌, length, get_or, refl, sym, ap, ap₂, ◌∙◌, arith, to_z, of_z, SFits}
 use Rattle.std.specs.Prelude.{ℤ, pos, negsuc, unsigned_abs, int_div, neg_ℤ, ◌+ℤ◌, ◌*ℤ◌, nat_le, ◌/◌, ◌&&◌}
 use Rattle.std.specs.List.{list_all}
 use Rattle.std.specs.Int.{w64, w128}
 use Rattle.std.proofs.Math.Nat.{div-zero, div-one, div-le_self, eq-zero-or-pos}
 use Rattle.crn_fraction.specs.Rational.{unsigned_abs-int_div}
 use Rattle.std.proofs.lemmas.Bool.Decides.{nat_tests}
-use Rattle.std.proofs.lemmas.List.{take_more, take_all}
 use Rattle.std.proofs.lemmas.Int.{ints, to_z-of_z, quot_fits, fits_signed_from_abs}
 use Rattle.crn_linear.specs.Rows.{IsSmall}
 use Rattle.crn_feasible.specs.Elimination.{fits, over}
@@ -54,23 +53,6 @@ low_is q r m e f h =
     (back ∙ f, record { size = omega (arith, ap unsigned_abs back, e) })
 
 -- ---- a row, number by number
-pub over_more : (a b : ℤ) (p n : List ℤ) (g i : ℕ) (row : List ℤ) (x y : ℤ) → length p ≡ length n → i < length p
-    → row ≡ take i (over g (mixed a p b n)) → x ≡ a *ℤ get_or p i (pos 0) +ℤ b *ℤ get_or n i (pos 0) → y ≡ int_div x (pos g)
-    → row ++ y ∷ [] ≡ take (i + 1) (over g (mixed a p b n))
-over_more a b p n g i row x y e l f h k =
-    let m = mixed a p b n in
-    let long : length (over g m) ≡ length p = length-over g m ∙ length-mixed a p b n (length p) refl (sym e) in
-    let item : y ≡ get_or (over g m) i (pos 0) =
-    k ∙ ap (λ t. int_div t (pos g)) (h ∙ sym (get_or-mixed a p b n i)) ∙ sym (get_or-over g m i) in
-    ap₂ (λ s t. s ++ t ∷ []) f item ∙ sym (take_more (over g m) i (pos 0) (omega (arith, long)))
-
-pub over_all : (a b : ℤ) (p n : List ℤ) (g i : ℕ) (row : List ℤ) → length p ≡ length n → length p ≤ i
-    → row ≡ take i (over g (mixed a p b n)) → row ≡ over g (mixed a p b n)
-over_all a b p n g i row e l f =
-    let m = mixed a p b n in
-    let long : length (over g m) ≡ length p = length-over g m ∙ length-mixed a p b n (length p) refl (sym e) in
-    f ∙ take_all i (over g m) (omega (arith, long))
-
 and_false : (a b : Bool) → b ≡ false → (a && b) ≡ false
 and_false true b h = h
 and_false false b h = refl

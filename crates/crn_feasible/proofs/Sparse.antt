@@ -47,10 +47,6 @@ after_ascends from to (m ∷ ms) h = by (m.0 == from) refl
     by false e = (past_place m.0 from h.0 e, h.1, h.2)
 
 -- ---- tests and sums of them
-pub length-spread : (from n : ℕ) (ms : List (ℕ × ℤ)) → length (spread from n ms) ≡ n
-length-spread from zero ms = refl
-length-spread from (suc n) ms = ap length (spread-suc from n ms) ∙ ap suc (length-spread (suc from) n (after from ms))
-
 pub over-spread : (g from n : ℕ) (ms : List (ℕ × ℤ)) → over g (spread from n ms) ≡ spread from n (map (divided g) ms)
 over-spread g from zero ms = refl
 over-spread g from (suc n) [] = ap₂ (λ x xs. x ∷ xs) (ap pos (zero-div g)) (over-spread g (suc from) n [])
@@ -227,7 +223,7 @@ pub ascend-merged : (from to : ℕ) (a : ℤ) (p : List (ℕ × ℤ)) (b : ℤ) 
 ascend-merged from to a [] b q h k = ascend-scaled from to b q k
 ascend-merged from to a (x ∷ p) b q h k = ascend-into to a x p b h.1 (λ r. ascend-merged (suc x.0) to a p b r h.2) from q h.0 k
 
-pub mixes-merged : (a : ℤ) (p : List (ℕ × ℤ)) (b : ℤ) (q : List (ℕ × ℤ)) → Mixes a p b q (merged a p b q)
+mixes-merged : (a : ℤ) (p : List (ℕ × ℤ)) (b : ℤ) (q : List (ℕ × ℤ)) → Mixes a p b q (merged a p b q)
 mixes-merged a p b q = record {
   mixed = λ rows h k. spread-merged rows 0 rows a p b q h k;
   ascend = λ rows h k. ascend-merged 0 rows a p b q h k;
@@ -273,7 +269,7 @@ module _ (a b : ℤ) (p q : List (ℕ × ℤ)) (i j : ℕ) (d x y : ℕ × ℤ) 
       ∙ ap (λ r. out ++ r) (sym (merged-both a b x y (drop (i + 1) p) (drop (j + 1) q) one)) ∙ heads l e k f rest
 
 -- where one is at its end, what is left of both
-pub rest_of_both : (a b : ℤ) (p q : List (ℕ × ℤ)) → (p ≡ []) ⊎ (q ≡ []) → map (scaled a) p ++ map (scaled b) q ≡ merged a p b q
+rest_of_both : (a b : ℤ) (p q : List (ℕ × ℤ)) → (p ≡ []) ⊎ (q ≡ []) → map (scaled a) p ++ map (scaled b) q ≡ merged a p b q
 rest_of_both a b p q none =
     ⊎_elim (λ e. ap (λ ps. map (scaled a) ps ++ map (scaled b) q) e ∙ ap (λ ps. merged a ps b q) (sym e))
     (λ e. ap (λ qs. map (scaled a) p ++ map (scaled b) qs) e ∙ append-nil (map (scaled a) p) ∙ sym (merged-none a b p) ∙ ap (λ qs. merged a p b qs) (sym e)) none

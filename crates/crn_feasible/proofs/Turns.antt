@@ -130,12 +130,6 @@ above_test z h = let e : true ≡ int_lt (pos 0) z = omega (arith, ints) in sym 
 pub not_above_test : (z : ℤ) → z ≤ℤ pos 0 → int_lt (pos 0) z ≡ false
 not_above_test z h = let e : false ≡ int_lt (pos 0) z = omega (arith, ints) in sym e
 
-pub below_test : (z : ℤ) → z <ℤ pos 0 → int_lt z (pos 0) ≡ true
-below_test z h = let e : true ≡ int_lt z (pos 0) = omega (arith, ints) in sym e
-
-pub not_below_test : (z : ℤ) → pos 0 ≤ℤ z → int_lt z (pos 0) ≡ false
-not_below_test z h = let e : false ≡ int_lt z (pos 0) = omega (arith, ints) in sym e
-
 -- ---- the rows of a list
 pub take_single : (rows : List Kept) (k : Kept) → take_rows rows (k ∷ []) ≡ take_row rows k
 take_single rows k = by (take_row rows k)
