@@ -1,4 +1,4 @@
-//! Completes runs of a rate-independent reaction network, from a text on standard input.
+//! Compiles functions to rate-independent reaction networks, and completes and replays runs of them: one command, from a text on standard input.
 #![tactic(auto)]
 
 ghost use Rattle.std.specs.Prelude.{map, ◌≡◌, ◌≢◌, ◌⊎◌, string_bytes};
