@@ -1,7 +1,8 @@
 //! The whole answer, before anything is written.
 
-ghost use Rattle.std.specs.Prelude.{ℕ, List, map, ◌≡◌, ◌⊎◌, ◌≤◌, length, string_bytes, IfOk, OnOk, IsErrOf};
+ghost use Rattle.std.specs.Prelude.{ℕ, List, map, ◌≡◌, ◌⊎◌, ◌≤◌, ◌+◌, length, string_bytes, IfOk, OnOk, IsErrOf};
 ghost use Rattle.crn_io.specs.Causes.{Rose};
+ghost use Rattle.crn_io.specs.Moved.{ConsumesSome};
 ghost use Rattle.crn_program.specs.Answer.{Answers, Says, IsFoundByText, text_limit};
 ghost use Rattle.crn_program.specs.Told.{AnswersTo, TakesText};
 ghost use Rattle.crn_program.specs.Words.{IsNoRow, ReadNoText};
@@ -57,6 +58,7 @@ fn text_answer<S: Source>(
 ) -> Result<Reply, Stop>
     ensures answers { IfOk result (λ reply. AnswersTo (λ bytes. Says (IsFoundByText command bytes)) (S.left source.old) reply.status reply.text.items) }
     ensures takes { OnOk result (TakesText (S.left source.old) (S.left source.new)) }
+    ensures within { ConsumesSome (S.left source.old) (S.left source.new) (λ n. n ≤ text_limit + 1) }
     ensures fault { IsErrOf result Stop.ReadFault → Rose (S.faults source.old) (S.faults source.new) }
     ensures no_fault { ¬ IsErrOf result Stop.ReadFault → S.faults source.new ≡ S.faults source.old }
 {
@@ -79,6 +81,7 @@ pub(crate) fn answer<S: Source>(
 ) -> Result<Reply, Stop>
     ensures answers { IfOk result (λ reply. AnswersTo (Answers (map string_bytes words.now)) (S.left source.old) reply.status reply.text.items) }
     ensures takes { OnOk result (ReadNoText (map string_bytes words.now) ⊎ TakesText (S.left source.old) (S.left source.new)) }
+    ensures within { ReadNoText (map string_bytes words.now) ⊎ ConsumesSome (S.left source.old) (S.left source.new) (λ n. n ≤ text_limit + 1) }
     ensures untouched { ReadNoText (map string_bytes words.now) → source.new ≡ source.old }
     ensures fault { IsErrOf result Stop.ReadFault → Rose (S.faults source.old) (S.faults source.new) }
     ensures no_fault { ¬ IsErrOf result Stop.ReadFault → S.faults source.new ≡ S.faults source.old }

@@ -1,9 +1,10 @@
 //! Compiles functions to rate-independent reaction networks, and completes and replays runs of them: one command, from a text on standard input.
 #![tactic(auto)]
 
-ghost use Rattle.std.specs.Prelude.{map, ◌≡◌, ◌≢◌, ◌⊎◌, string_bytes};
+ghost use Rattle.std.specs.Prelude.{map, ◌≡◌, ◌≢◌, ◌⊎◌, ◌+◌, ◌≤◌, string_bytes};
 ghost use Rattle.crn_io.specs.Causes.{Rose};
-ghost use Rattle.crn_program.specs.Answer.{Answers};
+ghost use Rattle.crn_io.specs.Moved.{ConsumesSome};
+ghost use Rattle.crn_program.specs.Answer.{Answers, text_limit};
 ghost use Rattle.crn_program.specs.Words.{ReadNoText};
 ghost use Rattle.crn_program.specs.Told.{Told, AnswersTo, TakesText};
 ghost use Rattle.crn_program.specs.Statuses.{number_of};
@@ -47,6 +48,7 @@ pub fn top<S: Source, K: Sink>(
 
     // What was read.
     ensures takes { result ≢ Status.ReadFault → result ≢ Status.Memory → ReadNoText (map string_bytes words.now) ⊎ TakesText (S.left source.old) (S.left source.new) }
+    ensures within { ReadNoText (map string_bytes words.now) ⊎ ConsumesSome (S.left source.old) (S.left source.new) (λ n. n ≤ text_limit + 1) }
     ensures untouched { ReadNoText (map string_bytes words.now) → source.new ≡ source.old }
 
     // A fault is told exactly where there was one.
