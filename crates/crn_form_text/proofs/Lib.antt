@@ -16,3 +16,4 @@ pub mod PrintLaws
 pub mod ItemLaws
 pub mod WrittenLaws
 pub mod PlainPrinted
+pub mod SmallSpelled

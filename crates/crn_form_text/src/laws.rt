@@ -6,9 +6,10 @@ ghost use Rattle.crn_fraction.specs.Rational.{ℚ, 0ℚ, ◌≤ℚ◌};
 ghost use Rattle.crn_formula.specs.Formulas.{Formula, node_count};
 ghost use Rattle.crn_form_text.specs.Grammar.{SpellsForm, SpellsPlain, SpellsFormula};
 ghost use Rattle.crn_token.specs.Printed.{Item, shown, ends_before, IsPrinted};
+ghost use Rattle.crn_token.specs.Small.{AreSmall};
 ghost use Rattle.crn_fraction.specs.Frac.{IsFrac};
 ghost use Rattle.crn_linear.specs.Forms.{entry_of};
-ghost use Rattle.crn_form_text.specs.Printing.{form_items, formula_items, with_constant, with_constants, HasColumnsFor, AreFracs, FitsText};
+ghost use Rattle.crn_form_text.specs.Printing.{form_items, formula_items, with_constant, with_constants, HasColumnsFor, AreFracs, AreFracsOf, FitsText};
 
 /// Tokens spell one form at most, and one formula of those that a function may have.
 pub fn one_meaning()
@@ -21,6 +22,13 @@ pub fn one_meaning()
 pub fn plain_forms_are_nonnegative()
     ensures columns { (k : ℕ) (form : List ℚ) (ts : List Plain) → SpellsPlain k form ts → length form ≡ k }
     ensures nonnegative { (k : ℕ) (form : List ℚ) (ts : List Plain) → SpellsPlain k form ts → All (λ c. 0ℚ ≤ℚ c) form }
+{}
+
+/// Tokens in which no number is above the greatest spell forms and formulas of fractions that fit.
+pub fn small_numbers_fit()
+    ensures forms { (k : ℕ) (form : List ℚ) (ts : List Plain) → SpellsForm k form ts → AreSmall ts → AreFracsOf k form }
+    ensures plain { (k : ℕ) (form : List ℚ) (ts : List Plain) → SpellsPlain k form ts → AreSmall ts → AreFracsOf k form }
+    ensures formulas { (k : ℕ) (e : Formula) (ts : List Plain) → k ≤ 8 → SpellsFormula k e ts → AreSmall ts → FitsText k e }
 {}
 
 /// The tokens of a printed form spell that form, and those of a printed formula spell that formula, with a constant of 0 where the forms

@@ -11,23 +11,24 @@ use Rattle.std.specs.Option.{option_map, option_map_or}
 use Rattle.crn_fraction.specs.Rational.{ℚ, 0ℚ, ◌≤ℚ◌}
 use Rattle.crn_token.specs.declared.Counted.{Counted}
 use Rattle.crn_token.specs.declared.Counted.TheVariants as counted
-use Rattle.crn_token.specs.Plain.{Plain, PlainWord, PlainNumber}
-use Rattle.crn_grammar.specs.Table.{Answer, Read, Malformed, Limited}
+use Rattle.crn_token.specs.Plain.{Plain, PlainLine, PlainWord, PlainNumber}
+use Rattle.crn_grammar.specs.Table.{Answer, Read, Malformed, Limited, IsText, PassesNone}
+use Rattle.crn_grammar.proofs.TableLaws.{kept_to_the_end}
 use Rattle.crn_formula.specs.Formulas.{node_count, depth_of}
 use Rattle.crn_formula.specs.Pieces.{Piece}
-use Rattle.crn_formula.specs.Functions.{IsPieceOver, condition_count}
+use Rattle.crn_formula.specs.Functions.{IsPieceOver, IsFitting, condition_count}
 use Rattle.crn_form_text.specs.Built.{fitted}
 use Rattle.crn_form_text.specs.Reading.{form_of}
 use Rattle.crn_function_text.specs.declared.words.Word.{Word}
 use Rattle.crn_function_text.specs.declared.words.Word.TheVariants as word
 use Rattle.crn_function_text.specs.declared.words.Given.{Given}
 use Rattle.crn_function_text.specs.declared.words.Given.TheVariants as given
-use Rattle.crn_function_text.specs.Words.{given_of}
+use Rattle.crn_function_text.specs.Words.{first_word, rest_of, says, given_of}
 use Rattle.crn_function_text.specs.Spelled.{formula_of}
-use Rattle.crn_function_text.specs.Grammar.{Place, Start, Header, Sized, Valued, InPieces, InForms, header, size, is_at_least_zero, condition_of, plain_form_of, new_piece, with_condition, follow, limit, above, or_else}
+use Rattle.crn_function_text.specs.Grammar.{PlainFunction, function_table, whole, Place, Start, Header, Sized, Valued, InPieces, InForms, header, size, is_at_least_zero, condition_of, plain_form_of, new_piece, with_condition, follow, limit, above, or_else}
 use Rattle.crn_function_text.specs.Reading.{judged, IsKept}
 use Rattle.crn_function_text.proofs.Spelled.{formula_spelled, spelled_over, form_long, plain_form_long, plain_form_nonnegative}
-use Rattle.crn_function_text.proofs.Narrowing.{formula_fits, fitted_nodes, fitted_depth}
+use Rattle.crn_function_text.proofs.Narrowing.{formula_fits, kept_fits, forms_fit, fitted_nodes, fitted_depth}
 
 -- ---- limits that are not passed
 not_passed : (greatest : ℕ) (what : Counted) (count : ℕ) → above greatest what count ≡ None → count ≤ greatest
@@ -105,10 +106,10 @@ kept_piece k done last rest (some, few, kept) =
     ))
 
 -- what holds of each holds of those before the last, and of it
-all_before : {X : Type 0} (P : X → Type 0) (xs : List X) (y : X) → All P (xs ++ y ∷ []) → All P xs
+pub all_before : {X : Type 0} (P : X → Type 0) (xs : List X) (y : X) → All P (xs ++ y ∷ []) → All P xs
 all_before P xs y all i d within = subst P (get_or_append_left xs (y ∷ []) d i within) (all i d (omega (arith, length-append xs (y ∷ []))))
 
-all_last : {X : Type 0} (P : X → Type 0) (xs : List X) (y : X) → All P (xs ++ y ∷ []) → P y
+pub all_last : {X : Type 0} (P : X → Type 0) (xs : List X) (y : X) → All P (xs ++ y ∷ []) → P y
 all_last P xs y all = subst P (get_or-append_seam xs y [] y) (all (length xs) y (omega (arith, length-append xs (y ∷ []))))
 
 -- one condition more
@@ -184,3 +185,22 @@ kept_judged number s t w rest kept is = go (follow s w rest) is (kept_follow s w
             let alike : u ≡ t = cc in
             subst IsKept alike (next none)
         low (Some what) past = let wrong : ◌≡◌ {A = Answer Place (Counted × ℕ)} (Limited what) (Read t) = sym (ap (λ l. option_map_or (λ w. Limited w) l (Read u)) past) ∙ e in cc
+
+-- ---- a function that a text within the limits gives keeps the rule of functions
+
+pub kept_next : (s : Place) (line : PlainLine) (t : Place) → IsKept s → function_table.next s line ≡ Some t → limit t ≡ None → IsKept t
+kept_next s line t kept is low = subst KeptNext is (kept_follow s (first_word (says line)) (rest_of (says line)) kept) low
+
+pub some_function : (f g : PlainFunction) → Some f ≡ Some g → f ≡ g
+some_function f g same = cc same
+
+pub whole_fits : (s : Place) (f : PlainFunction) → IsKept s → whole s ≡ Some f → IsFitting f.variables f.kind
+whole_fits (Valued k e) f kept is = subst (λ g. IsFitting g.variables g.kind) (some_function _ f is) kept
+whole_fits (InPieces k done last) f kept is = subst (λ g. IsFitting g.variables g.kind) (some_function _ f is) (kept_fits k (done ++ last ∷ []) kept.0 kept.1 kept.2)
+whole_fits (InForms k forms) f kept is = subst (λ g. IsFitting g.variables g.kind) (some_function _ f is) (forms_fit k forms kept.0 kept.1 kept.2)
+whole_fits Start f kept is = let wrong : ◌≡◌ {A = Option PlainFunction} None (Some f) = is in cc
+whole_fits (Header g) f kept is = let wrong : ◌≡◌ {A = Option PlainFunction} None (Some f) = is in cc
+whole_fits (Sized g k) f kept is = let wrong : ◌≡◌ {A = Option PlainFunction} None (Some f) = is in cc
+
+pub text_fits : (lines : List PlainLine) (f : PlainFunction) → IsText function_table lines f → PassesNone function_table lines → IsFitting f.variables f.kind
+text_fits lines f text low = let (s, kept, is) = kept_to_the_end function_table IsKept tt kept_next lines f text low in whole_fits s f kept is

@@ -9,3 +9,4 @@ pub mod PrintedColumns
 pub mod PrintedText
 pub mod LinesWritten
 pub mod PrintedBytes
+pub mod KeptFracs

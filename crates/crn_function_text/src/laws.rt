@@ -1,7 +1,7 @@
 //! What holds of function text. Each function here does nothing: its contract is a theorem about the definitions of `specs/`.
 ghost use Rattle.std.specs.Prelude.{ℕ, List, Some, None, ◌≡◌, ◌≤◌, ◌↔◌};
 ghost use Rattle.crn_fraction.specs.Rational.{ℚ};
-ghost use Rattle.crn_token.specs.Plain.{Plain, plain_lines};
+ghost use Rattle.crn_token.specs.Plain.{Plain, PlainLine, plain_lines};
 ghost use Rattle.crn_token.specs.Printed.{lines_read};
 ghost use Rattle.crn_grammar.specs.Table.{CanEnd, IsText, PassesNone};
 ghost use Rattle.crn_formula.specs.Formulas.{Formula, node_count, depth_of};
@@ -26,6 +26,11 @@ pub fn lines_say_what_tokens_spell()
 /// Wherever lines lead that begin a text, some lines more end one. So the answer line by line is the right one.
 pub fn places_can_end()
     ensures { CanEnd function_table }
+{}
+
+/// The function of a text that passes no limit keeps the rule of functions. So these are the functions that texts within the limits give, since each is printed.
+pub fn texts_keep_the_rule()
+    ensures { (lines : List PlainLine) (f : PlainFunction) → IsText function_table lines f → PassesNone function_table lines → IsFitting f.variables f.kind }
 {}
 
 /// The printed lines of a function are a text of it and pass no limit, and the bytes read as these lines.

@@ -215,3 +215,46 @@ module _ {S L F W : Type 0} (table : Table S L F W) where
   pub can_end : (Fine : S → Type 0) → Fine table.start → ((s : S) (line : L) (t : S) → Fine s → table.next s line ≡ Some t → Fine t)
       → ((s : S) → Fine s → (more : List L) × (t : S) × (f : F) × (after table s more ≡ Some t) × (table.whole t ≡ Some f)) → CanEnd table
   can_end Fine first kept ends lines s there = ends s (keeps Fine kept lines table.start s first there)
+
+  -- ---- what lines that pass no limit keep holds where a text ends
+
+  -- the fact holds of each line
+  abbrev pub EachLine : (L → Type 0) → List L → Type 0
+  EachLine Good [] = Unit {0}
+  EachLine Good (line ∷ lines) = Good line × EachLine Good lines
+
+  -- an allowed line of these that passes no limit keeps it
+  abbrev pub KeepsWhere : (L → Type 0) → (S → Type 0) → Type 0
+  KeepsWhere Good Kept = (s : S) (line : L) (t : S) → Good line → Kept s → table.next s line ≡ Some t → table.limit t ≡ None → Kept t
+
+  abbrev pub Keeps : (S → Type 0) → Type 0
+  Keeps Kept = (s : S) (line : L) (t : S) → Kept s → table.next s line ≡ Some t → table.limit t ≡ None → Kept t
+
+  kept_along : (Good : L → Type 0) (Kept : S → Type 0) → KeepsWhere Good Kept → (before lines : List L) (s t : S) → EachLine Good lines → PassesNone table (before ++ lines)
+      → after table table.start before ≡ Some s → Kept s → after table s lines ≡ Some t → Kept t
+  kept_along Good Kept keeps before [] s t each low here kept there = subst Kept (some_alike s t there) kept
+  kept_along Good Kept keeps before (line ∷ lines) s t each low here kept there =
+      go (table.next s line) refl there (λ u here' kept' there'. kept_along Good Kept keeps (before ++ line ∷ []) lines u t each.1 (subst (PassesNone table) (sym (append_assoc before (line ∷ []) lines)) low) here' kept' there')
+    where
+      front : take (length before + 1) (before ++ line ∷ lines) ≡ before ++ line ∷ []
+      front = ap (take (length before + 1)) (sym (append_assoc before (line ∷ []) lines)) ∙ take_at (before ++ line ∷ []) lines (length before + 1) (length-append before (line ∷ []))
+
+      go : (o : Option S) → table.next s line ≡ o → option_and_then (λ u. after table u lines) o ≡ Some t
+          → ((u : S) → after table table.start (before ++ line ∷ []) ≡ Some u → Kept u → after table u lines ≡ Some t → Kept t) → Kept t
+      go None e there again = absurd (none_some t there)
+      go (Some u) e there again =
+          let here' : after table table.start (before ++ line ∷ []) ≡ Some u = after_more before line s here ∙ e in
+          let quiet : table.limit u ≡ None = low (length before + 1) u (omega arith) (omega (arith, length-append before (line ∷ lines))) (ap (after table table.start) front ∙ here') in
+          again u here' (keeps s line u each.0 kept e quiet) there
+
+  pub kept_where : (Good : L → Type 0) (Kept : S → Type 0) → Kept table.start → KeepsWhere Good Kept → (lines : List L) (f : F) → EachLine Good lines → IsText table lines f → PassesNone table lines
+      → (s : S) × Kept s × (table.whole s ≡ Some f)
+  kept_where Good Kept first keeps lines f each (s, there, whole) low = (s, kept_along Good Kept keeps [] lines table.start s each low refl first there, whole)
+
+  -- the same for any lines
+  any_lines : (lines : List L) → EachLine (λ line. Unit {0}) lines
+  any_lines [] = tt
+  any_lines (line ∷ lines) = (tt, any_lines lines)
+
+  pub kept_to_the_end : (Kept : S → Type 0) → Kept table.start → Keeps Kept → (lines : List L) (f : F) → IsText table lines f → PassesNone table lines → (s : S) × Kept s × (table.whole s ≡ Some f)
+  kept_to_the_end Kept first keeps lines f text low = kept_where (λ line. Unit {0}) Kept first (λ s line t good kept is quiet. keeps s line t kept is quiet) lines f (any_lines lines) text low

@@ -8,3 +8,5 @@ pub mod RunSteps
 pub mod FollowedLaws
 pub mod JobLaws
 pub mod RunLaws
+pub mod FollowedKept
+pub mod KeptJobs

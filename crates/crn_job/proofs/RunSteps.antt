@@ -19,6 +19,8 @@ use Rattle.crn_job.specs.Grammar.{number_of, segments_with, segments_limit}
 use Rattle.crn_job.specs.RunGrammar.{Given, RunTail, RunValue, given, state_given, given_of, last_species, with_amount, with_segments, run_follow, run_next, run_limit}
 use Rattle.crn_job.specs.Reading.{judged, Shows, IsRunKept}
 use Rattle.crn_job.proofs.Numbers.{number_of_nonnegative}
+use Rattle.crn_job.proofs.Segments.{segments_are}
+use Rattle.crn_segments.specs.Steps.{AreSegments}
 use Rattle.crn_job.specs.Followed.{answer_map}
 use Rattle.crn_job.proofs.Flows.{judged_segments}
 use Rattle.crn_job.proofs.TailSteps.{not_passed}
@@ -84,23 +86,25 @@ kept_map : {X : Type 0} (n : ℕ) (f : X → RunTail) (o : Option X) → ((x : X
 kept_map n f None kept = tt
 kept_map n f (Some x) kept = kept x refl
 
-kept_follow : (n : ℕ) (t : RunTail) (us : List (List Flow)) (w : Word) (ts : List Plain) → IsRunKept n t → KeptNext n (run_follow t us w ts)
-kept_follow n t [] word.Amount ts kept =
+kept_follow : (n : ℕ) (t : RunTail) (us : List (List Flow)) (w : Word) (ts : List Plain) → IsRunKept n t → AreSegments us → KeptNext n (run_follow t us w ts)
+kept_follow n t [] word.Amount ts kept all =
     kept_map n (with_amount t) (given_of (last_species t.amounts) t.species ts) (λ g is low. record {
       species = kept.species;
       few = kept.few;
       not_negative = (given_nonnegative (last_species t.amounts) t.species ts g is, kept.not_negative);
+      segments = kept.segments;
     })
-kept_follow n t us word.Segment ts kept =
+kept_follow n t us word.Segment ts kept all =
     subst (KeptNext n) (sym (follow_segments t us ts)) (kept_map n (λ vs. with_segments t vs) (segments_with us ts) (λ vs is low. record {
       species = kept.species;
       few = not_passed (length vs) low;
       not_negative = kept.not_negative;
+      segments = segments_are us vs ts all is;
     }))
-kept_follow n t _ _ ts kept = tt
+kept_follow n t _ _ ts kept all = tt
 
 pub run_kept : (n number : ℕ) (t u : RunTail) (w : Word) (ts : List Plain) → IsRunKept n t → judged run_limit number (run_follow t t.segments w ts) ≡ Read u → IsRunKept n u
-run_kept n number t u w ts kept is = go (run_follow t t.segments w ts) is (kept_follow n t t.segments w ts kept)
+run_kept n number t u w ts kept is = go (run_follow t t.segments w ts) is (kept_follow n t t.segments w ts kept kept.segments)
   where
     go : (o : Option RunTail) → judged run_limit number o ≡ Read u → KeptNext n o → IsRunKept n u
     go None e next = let wrong : ◌≡◌ {A = Answer RunTail (Counted × ℕ)} (Malformed number) (Read u) = e in cc

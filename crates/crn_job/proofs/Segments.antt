@@ -1,5 +1,5 @@
 -- The test of a segment, and the flows that are one.
-use Rattle.std.proofs.Common.{◌≡◌, ℕ, Bool, true, false, ◌&&◌, List, [], ◌∷◌, refl, sym, ◌∙◌, ap₂, ⊎_elim, arith, lt-ltb, ltb-true}
+use Rattle.std.proofs.Common.{◌≡◌, ℕ, Bool, true, false, cond, ◌&&◌, List, [], ◌∷◌, ◌++◌, length, Option, Some, None, refl, sym, ◌∙◌, ap₂, subst, ⊎_elim, arith, lt-ltb, ltb-true}
 use Rattle.std.specs.Prelude.{nat_lt}
 use Rattle.crn_fraction.specs.Rational.{ℚ, 0ℚ, ◌<ℚ◌}
 use Rattle.crn_fraction.proofs.Linear.{not_<ℚ}
@@ -7,7 +7,11 @@ use Rattle.crn_net.specs.declared.Flow.{Flow}
 use Rattle.crn_segments.specs.Flows.{AreAscending, IsSegment}
 use Rattle.crn_segments.specs.Signs.{is_positive_ℚ}
 use Rattle.crn_segments.proofs.SignLaws.{is_positive_ℚ_cases}
-use Rattle.crn_job.specs.Grammar.{ascend, is_segment}
+use Rattle.crn_segments.specs.Steps.{AreSegments}
+use Rattle.crn_segments.proofs.Runs.{segments_append}
+use Rattle.crn_token.specs.Plain.{Plain}
+use Rattle.crn_net_text.proofs.Found.{some_same, then_found, map_found, if_found}
+use Rattle.crn_job.specs.Grammar.{ascend, is_segment, flows_of, segment_of, segments_with}
 
 and_left : (a b : Bool) → a && b ≡ true → a ≡ true
 and_left true b is = refl
@@ -43,3 +47,16 @@ segment_is (f ∷ fs) is = record { some = omega arith; ascending = ascending 0 
 pub is_segment_of : (fs : List Flow) → IsSegment fs → is_segment fs ≡ true
 is_segment_of [] is = absurd (omega (arith, is.some))
 is_segment_of (f ∷ fs) is = ascends 0 (f ∷ fs) is.ascending
+
+-- ---- the segments of segment lines
+
+pub segment_found_is : (ts : List Plain) (u : List Flow) → segment_of ts ≡ Some u → IsSegment u
+segment_found_is ts u is =
+    let (fs, here, rest) = then_found (λ fs. cond (is_segment fs) (Some fs) None) (flows_of (length ts) ts) u is in
+    let (test, same) = if_found (is_segment fs) (Some fs) u rest in
+    subst IsSegment (some_same fs u same) (segment_is fs test)
+
+pub segments_are : (us vs : List (List Flow)) (ts : List Plain) → AreSegments us → segments_with us ts ≡ Some vs → AreSegments vs
+segments_are us vs ts all is =
+    let (u, here, same) = map_found (λ u. us ++ u ∷ []) (segment_of ts) vs is in
+    subst AreSegments same (segments_append us (u ∷ []) all (segment_found_is ts u here, tt))

@@ -22,6 +22,7 @@ use Rattle.crn_job.specs.Grammar.{Tail, amounts_of, numbers_of, segments_with, w
 use Rattle.crn_job.specs.Reading.{judged, IsKept}
 use Rattle.crn_net_text.proofs.Found.{some_same}
 use Rattle.crn_job.proofs.Numbers.{found_nonnegative}
+use Rattle.crn_job.proofs.Segments.{segments_are}
 use Rattle.crn_job.proofs.LineLaws.{word_is, rest_is}
 
 -- what is read of a line is what it says
@@ -82,6 +83,7 @@ kept_input rails inputs n t rest left kept =
       few = kept.few;
       inputs_are = omega (arith, kept.inputs_are, long, one_less, length-append t.amounts qs);
       not_negative = both_nonnegative t.amounts qs kept.not_negative are.not_negative;
+      segments = kept.segments;
     })
 
 kept_segment : (rails : Rails) (inputs : ℕ) (t : Tail) (rest : List Plain) → IsKept rails inputs t → KeptNext rails inputs (option_map (λ us. with_segments t us) (segments_with t.segments rest))
@@ -91,6 +93,7 @@ kept_segment rails inputs t rest kept =
       few = not_passed (length us) low;
       inputs_are = kept.inputs_are;
       not_negative = kept.not_negative;
+      segments = segments_are t.segments us rest kept.segments is;
     })
 
 kept_follow : (rails : Rails) (inputs left : ℕ) (t : Tail) (w : Word) (rest : List Plain) → t.left ≡ left → IsKept rails inputs t → KeptNext rails inputs (tail_follow t left w rest)

@@ -3,3 +3,4 @@ pub mod Followed
 pub mod Grammar
 pub mod RunGrammar
 pub mod Reading
+pub mod Fitting

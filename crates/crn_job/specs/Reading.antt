@@ -15,6 +15,7 @@ use Rattle.crn_net_text.specs.declared.NetTextError.TheVariants as network
 use Rattle.crn_net_text.specs.Grammar.{network_part}
 use Rattle.crn_net.specs.declared.Rails.{Rails}
 use Rattle.crn_net.specs.declared.Flow.{Flow}
+use Rattle.crn_segments.specs.Steps.{AreSegments}
 use Rattle.std.proofs.Common.{Vec, Global}
 use Rattle.crn_job.specs.declared.Job.{Job}
 use Rattle.crn_job.specs.declared.RunJob.{RunJob}
@@ -68,12 +69,13 @@ IsRight view (Err error.Memory) Right = Unit {0}
 abbrev pub value_of : Vec ℚ Global × Vec (List Flow) Global → grammar.TailValue
 value_of (amounts, segments) = record { amounts = amounts.items; segments = segments.items }
 
--- within the limits, with as many amounts as the input lines so far have, none negative
+-- within the limits, with as many amounts as the input lines so far have, none negative, and segments
 pub record IsKept (rails : Rails) (inputs : ℕ) (t : grammar.Tail) : Type 0 where
   pub rails_are : t.rails ≡ rails
   pub few : length t.segments ≤ grammar.most_segments
   pub inputs_are : length t.amounts + t.left * grammar.amounts_of rails ≡ inputs * grammar.amounts_of rails
   pub not_negative : AreNotNegative t.amounts
+  pub segments : AreSegments t.segments
 
 -- the refusal of a job whose function part is refused so
 abbrev pub refused : FunctionTextError → JobError
@@ -109,8 +111,9 @@ abbrev pub AreGivenNotNegative : List run.Given → Type 0
 AreGivenNotNegative [] = Unit {0}
 AreGivenNotNegative (g ∷ gs) = (0ℚ ≤ℚ g.amount) × AreGivenNotNegative gs
 
--- within the limits, with no negative amount
+-- within the limits, with no negative amount, and segments
 pub record IsRunKept (n : ℕ) (t : run.RunTail) : Type 0 where
   pub species : t.species ≡ n
   pub few : length t.segments ≤ grammar.most_segments
   pub not_negative : AreGivenNotNegative t.amounts
+  pub segments : AreSegments t.segments

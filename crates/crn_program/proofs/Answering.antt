@@ -50,7 +50,7 @@ no_no_command Compile bytes found = found
 no_no_command Complete bytes found = found
 no_no_command Run bytes found = found
 
-row_found : (words : List (List ℕ)) (command : TextCommand) (bytes : List ℕ) (f : Finding) → IsRow (OfText command) words → IsFoundByText command bytes f → IsFound words bytes f
+pub row_found : (words : List (List ℕ)) (command : TextCommand) (bytes : List ℕ) (f : Finding) → IsRow (OfText command) words → IsFoundByText command bytes f → IsFound words bytes f
 row_found words command bytes NoCommand row found = absurd (no_no_command command bytes found)
 row_found words command bytes f row found = (OfText command, row, found)
 

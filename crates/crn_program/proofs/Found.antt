@@ -90,7 +90,7 @@ tells_refused net value a us p t e s text net_is state_is refused status_is text
 }
 
 -- what comes of the segments in the network of a job's function comes of the job
-found_of_job : (job : PlainJob) (net : Network) (value : ℚ) (o : Outcome) → IsNetworkOf job.function net → IsValue job.function (encoded net.rails job.amounts) value
+pub found_of_job : (job : PlainJob) (net : Network) (value : ℚ) (o : Outcome) → IsNetworkOf job.function net → IsValue job.function (encoded net.rails job.amounts) value
     → IsFoundOf net value (start net job.amounts) job.segments o → IsFoundOfJob job o
 found_of_job job net value OtherKind net_is value_is found = absurd found
 found_of_job job net value o net_is value_is found = (net, value, net_is, value_is, found)
@@ -117,7 +117,7 @@ tells_compiled f net text compiled text_is = record { outcome = Compiled net; fo
 
 -- ---- what is told of a run
 
-found_of_run : (net : Network) (a : List ℚ) (us : List (List Flow)) (c : List ℚ) (o : Outcome) → AreSegments us → StepsGo net a us c → IsFoundAt net c o → IsFoundOfRun net a us o
+pub found_of_run : (net : Network) (a : List ℚ) (us : List (List Flow)) (c : List ℚ) (o : Outcome) → AreSegments us → StepsGo net a us c → IsFoundAt net c o → IsFoundOfRun net a us o
 found_of_run net a us c NoValue segments leads found = (c, leads, found)
 found_of_run net a us c (Ran n d) segments leads found =
     (found.0, rw found.1 (record { leads = leads; run = (steps_run net a us c segments leads).0; output_fits = found.2 }))
@@ -158,7 +158,7 @@ tells_refused_run net a us p t e s text net_is state_is refused status_is text_i
 -- ---- what is told of `bulk`
 
 -- what comes of the completion from c, after the segments that were drawn
-found_of_halves : (net : Network) (value : ℚ) (xs : List ℚ) (z n count : ℕ) (c : List ℚ) (o : Outcome) → IsNetwork net → IsFeedForward net → AreAmounts net xs → AreSegments (halves net z (start net xs))
+pub found_of_halves : (net : Network) (value : ℚ) (xs : List ℚ) (z n count : ℕ) (c : List ℚ) (o : Outcome) → IsNetwork net → IsFeedForward net → AreAmounts net xs → AreSegments (halves net z (start net xs))
     → StablyComputes net xs value → StepsGo net (start net xs) (halves net z (start net xs)) c → halves_refusal net z (start net xs) ≡ None → count ≡ length (halves net z (start net xs))
     → IsFoundAfter n count net c o → IsFoundOfHalves net value (start net xs) z n o
 found_of_halves net value xs z n count c (Bulked m on segments d) ok feeds given segments_are computes leads fits counted (size, same, count_is, ends, finishes, output_fits) =

@@ -98,11 +98,11 @@ happens_present net draw r c moves = and_right (draw % 2 == 0) (lacks (amount c)
 
 -- ---- turn after turn
 
-goes_after : (net : Network) (a : List ℚ) (us : List (List Flow)) (c : List ℚ) → StepsGo net a us c → c ≡ after_all net a us
+pub goes_after : (net : Network) (a : List ℚ) (us : List (List Flow)) (c : List ℚ) → StepsGo net a us c → c ≡ after_all net a us
 goes_after net a [] c goes = goes
 goes_after net a (u ∷ us) c goes = goes_after net (after net a u) us c goes.1
 
-goes_append : (net : Network) (a : List ℚ) (us : List (List Flow)) (c : List ℚ) (vs : List (List Flow)) (d : List ℚ) → StepsGo net a us c → StepsGo net c vs d → StepsGo net a (us ++ vs) d
+pub goes_append : (net : Network) (a : List ℚ) (us : List (List Flow)) (c : List ℚ) (vs : List (List Flow)) (d : List ℚ) → StepsGo net a us c → StepsGo net c vs d → StepsGo net a (us ++ vs) d
 goes_append net a [] c vs d goes more = subst (λ s. StepsGo net s vs d) goes more
 goes_append net a (u ∷ us) c vs d goes more = (goes.0, goes_append net (after net a u) us c vs d goes.1 more)
 

@@ -1,5 +1,5 @@
 -- Steps that all answer Ok are a run.
-use Rattle.std.proofs.Common.{◌≡◌, ℕ, zero, suc, ◌+◌, ◌<◌, ◌≤◌, if◌then◌else◌, true, false, List, [], ◌∷◌, length, Option, Some, None, refl, sym, ◌∙◌, ap, subst, ⊎_elim, arith}
+use Rattle.std.proofs.Common.{◌≡◌, ℕ, zero, suc, ◌+◌, ◌<◌, ◌≤◌, if◌then◌else◌, true, false, List, [], ◌∷◌, ◌++◌, length, Option, Some, None, refl, sym, ◌∙◌, ap, subst, ⊎_elim, arith}
 use Rattle.crn_fraction.specs.Rational.{ℚ, 0ℚ, ◌≤ℚ◌, ◌<ℚ◌}
 use Rattle.crn_net.specs.Network.{Network, Run, IsLegal, IsNetwork, AreFlows, after, amount}
 use Rattle.crn_net.specs.declared.Flow.{Flow}
@@ -48,3 +48,8 @@ steps_run net c (u ∷ us) d segs h =
 pub run_steps : (net : Network) → IsNetwork net → (c : List ℚ) (us : List (List Flow)) (d : List ℚ) → AreSegments us → Run net c us d × StepsFit net c us → StepsGo net c us d
 run_steps net ok c [] d segs h = h.0
 run_steps net ok c (u ∷ us) d segs h = (legal_goes net c u ok segs.0 h.0.0 h.1.0, run_steps net ok (after net c u) us d segs.1 (h.0.1, h.1.1))
+
+-- segments one after another, and then more
+pub segments_append : (us vs : List (List Flow)) → AreSegments us → AreSegments vs → AreSegments (us ++ vs)
+segments_append [] vs all more = more
+segments_append (u ∷ us) vs all more = (all.0, segments_append us vs all.1 more)

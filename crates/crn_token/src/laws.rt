@@ -6,6 +6,7 @@ ghost use Rattle.crn_token.specs.Lines.{physical_lines, joined};
 ghost use Rattle.crn_token.specs.Piece.{is_piece, longest};
 ghost use Rattle.crn_token.specs.Plain.{said, plain_lines, plain_lines_from};
 ghost use Rattle.crn_token.specs.Printed.{Item, AreLines, printed, lines_read};
+ghost use Rattle.crn_token.specs.Small.{AreSmallLines};
 
 /// A text is cut at line feeds. The last line needs none.
 pub fn lines_end_at_feeds()
@@ -35,6 +36,11 @@ pub fn comments_say_nothing()
 /// one, and a carriage return change nothing.
 pub fn blanks_only_part()
     ensures { (before after : List ℕ) (b : ℕ) → IsBlank b → HasNo 35 before → said (before ++ b ∷ after) ≡ joined (said before) (said after) }
+{}
+
+/// No number of a text is above the greatest, 9223372036854775807.
+pub fn numbers_are_small()
+    ensures { (bytes : List ℕ) → AreSmallLines (plain_lines bytes) }
 {}
 
 /// What was printed as lines of tokens, each with a line feed, reads as those tokens.

@@ -10,7 +10,7 @@ use Rattle.crn_job.proofs.RunSteps.{run_line_next, run_kept, value_shown}
 use Rattle.crn_job.proofs.read_run_tail.Goals as goal
 
 pub loop-index-init : goal.loop-index-init
-loop-index-init c = (run_start c.args.species, c.in_ok-tail.ensures, record { species = refl; few = omega arith; not_negative = tt }, refl)
+loop-index-init c = (run_start c.args.species, c.in_ok-tail.ensures, record { species = refl; few = omega arith; not_negative = tt; segments = tt }, refl)
 
 pub after-requires-clause-long : goal.after-requires-clause-long
 after-requires-clause-long c =
