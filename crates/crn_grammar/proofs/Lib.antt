@@ -1,2 +1,5 @@
 pub mod TableLaws
 pub mod PartLaws
+pub mod RightParts
+pub mod FollowedLaws
+pub mod Turns

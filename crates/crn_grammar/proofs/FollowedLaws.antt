@@ -2,10 +2,10 @@
 use Rattle.std.proofs.Common.{◌≡◌, ℕ, Bool, true, false, cond, List, [], ◌∷◌, ◌++◌, Option, Some, None, refl, ◌∙◌, ap, subst}
 use Rattle.std.specs.Option.{option_map, option_and_then, option_map_or}
 use Rattle.crn_grammar.specs.Table.{Table, Answer, Read, Malformed, Limited, answer, after, CanEnd}
-use Rattle.crn_grammar.specs.Part.{Either, Part, After, PartAnswer, Ends, Wrong, Past, part_answer, go_on}
+use Rattle.crn_grammar.specs.Part.{Either, Part, After, PartAnswer, Ends, Wrong, Past, part_answer, Leaves, go_on}
 use Rattle.crn_grammar.proofs.TableLaws.{can_end, after_then}
 use Rattle.crn_grammar.proofs.PartLaws.{answer_parts}
-use Rattle.crn_job.specs.Followed.{Following, following_start, following_next, following_whole, following_limit, followed_table, answer_map}
+use Rattle.crn_grammar.specs.Followed.{Following, following_start, following_next, following_whole, following_limit, followed_table, answer_map}
 
 -- ---- the answer
 module _ {S R L F V G W : Type 0} (table : Table S L F W) (goes_on : S → L → Bool) (rest : F → Table R L V W) (value : F → V → G) (number : L → ℕ) (end : ℕ) where
@@ -69,11 +69,6 @@ module _ {S R L F V G W : Type 0} (table : Table S L F W) (goes_on : S → L →
 -- some lines more lead to the end of a text
 abbrev pub Stops : {S L F W : Type 0} → Table S L F W → S → Type 0
 Stops {S} {L} {F} table s = (more : List L) × (t : S) × (f : F) × (after table s more ≡ Some t) × (table.whole t ≡ Some f)
-
--- the first line, if there is one, ends the part
-abbrev pub Leaves : {S L : Type 0} → (S → L → Bool) → S → List L → Type 0
-Leaves goes_on s [] = Unit {0}
-Leaves goes_on s (line ∷ lines) = goes_on s line ≡ false
 
 module _ {S R L F V G W : Type 0} (table : Table S L F W) (goes_on : S → L → Bool) (rest : F → Table R L V W) (value : F → V → G) where
   abbrev text : Table (Either S (Following F R)) L G W
