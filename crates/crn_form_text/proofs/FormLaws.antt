@@ -1,5 +1,6 @@
 -- A form is read from exactly the tokens that spell it.
 use Rattle.std.proofs.Common.{◌≡◌, ℕ, suc, ◌<◌, ltb, pos, Bool, true, false, cond, List, [], ◌∷◌, ◌++◌, length, map, Option, Some, None, IfSome, refl, sym, ap, ◌∙◌, subst, ⊎_elim, arith, append_assoc, append-nil, lt-ltb, ltb-true}
+use Rattle.std.proofs.lemmas.List.{map-append}
 use Rattle.std.specs.Prelude.{codes}
 use Rattle.std.specs.Option.{option_and_then, option_map}
 use Rattle.crn_grammar.specs.Table.{after}
@@ -50,13 +51,9 @@ sign_next k (place.Named q) es fs negative e = absurd (none_some fs e)
 sign_next k place.Ended es fs true e = ap (option_map (λ l. at_place (place.Term true count.Empty) l)) e
 sign_next k place.Ended es fs false e = ap (option_map (λ l. at_place (place.Term false count.Empty) l)) e
 
-map_append : (xs ys : List Plain) → map mark_of (xs ++ ys) ≡ map mark_of xs ++ map mark_of ys
-map_append [] ys = refl
-map_append (x ∷ xs) ys = ap (λ l. mark_of x ∷ l) (map_append xs ys)
-
 -- some tokens, and then more
 pub runs_on : (k : ℕ) (s u : FormState) (xs ys : List Plain) (es : List (Option ℚ)) → after (forms k) s (map mark_of xs) ≡ Some u → RunsTo k u ys es → RunsTo k s (xs ++ ys) es
-runs_on k s u xs ys es there (v, more, ends) = (v, ap (after (forms k) s) (map_append xs ys) ∙ after_then (forms k) s u (map mark_of xs) (map mark_of ys) there ∙ more, ends)
+runs_on k s u xs ys es there (v, more, ends) = (v, ap (after (forms k) s) (map-append mark_of xs ys) ∙ after_then (forms k) s u (map mark_of xs) (map mark_of ys) there ∙ more, ends)
 
 more_run : (k : ℕ) (terms : List Signed) (s : FormState) (es fs : List (Option ℚ)) → closed k s.place s.entries ≡ Some es → AreTermsOver k terms → puts k es terms ≡ Some fs → RunsTo k s (more_tokens terms) fs
 more_run k [] s es fs ends over e = (s, refl, ends ∙ e)

@@ -3,3 +3,4 @@ pub mod PartLaws
 pub mod RightParts
 pub mod FollowedLaws
 pub mod Turns
+pub mod LimitLaws
