@@ -4,13 +4,13 @@ use Rattle.std.proofs.lemmas.Bool.{ltb-true, leb-true}
 use Rattle.std.specs.Prelude.{codes, nat_lt, nat_le}
 use Rattle.std.specs.Option.{option_map, option_and_then}
 use Rattle.crn_token.specs.Plain.{Plain}
-use Rattle.crn_function_text.specs.Words.{rest_of}
+use Rattle.crn_token.specs.Words.{rest_of, begins, number_at}
 use Rattle.crn_net.specs.Network.{Part, Reaction, AreParts, IsReaction, IsEnds}
 use Rattle.crn_net.specs.declared.Rails.{Rails}
 use Rattle.crn_net.specs.declared.Rails.TheVariants.{Dual, Direct}
 use Rattle.crn_net.specs.declared.Ends.{Ends}
 use Rattle.crn_net.specs.declared.Ends.TheVariants.{Pair, One}
-use Rattle.crn_net_text.specs.Grammar.{within, species_at, many, part_by, part_at, side_at, side_of, gives_of, reaction_with, reaction_of, one_of, pair_with, ends_of, begins, number_at, is_plus, is_arrow, is_nothing}
+use Rattle.crn_net_text.specs.Grammar.{within, species_at, many, part_by, part_at, side_at, side_of, gives_of, reaction_with, reaction_of, one_of, pair_with, ends_of, is_plus, is_arrow, is_nothing}
 
 -- ---- answers in turn
 pub some_same : {A : Type 0} (a b : A) → Some a ≡ Some b → a ≡ b

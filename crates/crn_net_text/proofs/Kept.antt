@@ -7,10 +7,13 @@ use Rattle.crn_token.specs.declared.Counted.{Counted}
 use Rattle.crn_token.specs.declared.Counted.TheVariants as counted
 use Rattle.crn_token.specs.declared.Sign.TheVariants.{Arrow}
 use Rattle.crn_token.specs.Plain.{Plain, PlainLine, PlainWord, PlainNumber, PlainSign}
-use Rattle.crn_grammar.specs.Table.{Answer, Read, Malformed, Limited, after, CanEnd}
+use Rattle.crn_grammar.specs.Table.{Read, after, CanEnd}
+use Rattle.crn_grammar.specs.Reading.{judged}
+use Rattle.crn_grammar.proofs.LimitLaws.{not_passed, neither}
+use Rattle.crn_grammar.proofs.Turns.{judged_read}
 use Rattle.crn_grammar.proofs.TableLaws.{can_end}
-use Rattle.crn_function_text.specs.Words.{rest_of, says}
-use Rattle.crn_function_text.specs.Grammar.{above, or_else}
+use Rattle.crn_token.specs.Words.{rest_of, says, begins, number_at}
+use Rattle.crn_grammar.specs.Limits.{above, or_else}
 use Rattle.crn_net.specs.Network.{Reaction, Network, IsReaction, IsEnds, AreDifferent, IsApart, IsContext, input_species, numbered}
 use Rattle.crn_net.specs.Inputs.{species_of, AreNew}
 use Rattle.crn_net.specs.Limits.{IsValid}
@@ -19,8 +22,8 @@ use Rattle.crn_net.specs.declared.Rails.TheVariants.{Dual, Direct}
 use Rattle.crn_net.specs.declared.Ends.{Ends}
 use Rattle.crn_net.specs.declared.Ends.TheVariants.{Pair, One}
 use Rattle.crn_net.proofs.InputLists.{species_push, ends_push, different-append, end_different}
-use Rattle.crn_net_text.specs.Grammar.{Place, Start, Titled, Naming, Placed, Closed, Listing, least, frame, with_reaction, is_named, is_new, leaves_one, rails_of, version_of, title_with, title, sized, size, with_input, with_context, with_output, after_inputs, naming, count, listing, follow, limit, network_table, begins, number_at, number_of, one_of, ends_of, reaction_of}
-use Rattle.crn_net_text.specs.Reading.{judged, AreNamed, IsFramed, IsFine, AreFew, IsLow, IsKept}
+use Rattle.crn_net_text.specs.Grammar.{Place, Start, Titled, Naming, Placed, Closed, Listing, least, frame, with_reaction, is_named, is_new, leaves_one, rails_of, version_of, title_with, title, sized, size, with_input, with_context, with_output, after_inputs, naming, count, listing, follow, limit, network_table, number_of, one_of, ends_of, reaction_of}
+use Rattle.crn_net_text.specs.Reading.{AreNamed, IsFramed, IsFine, AreFew, IsLow, IsKept}
 use Rattle.crn_net_text.proofs.Found.{some_same, then_found, map_found, if_found, else_found, both, ends_found, one_found, reaction_found}
 use Rattle.crn_net_text.proofs.Left.{left_here, left}
 
@@ -58,18 +61,6 @@ some_least Direct true = omega arith
 none_named : (two : Bool) (n : ℕ) → 1 ≤ n → leaves_one two n [] ≡ true
 none_named false n some = refl
 none_named true n some = left_here [] n 1 (omega arith) some refl
-
--- ---- limits
-not_passed : (greatest : ℕ) (what : Counted) (n : ℕ) → above greatest what n ≡ None → n ≤ greatest
-not_passed greatest what n none = go (nat_lt greatest n) refl
-  where
-    go : (b : Bool) → nat_lt greatest n ≡ b → n ≤ greatest
-    go true is = let wrong : ◌≡◌ {A = Option (Counted × ℕ)} (Some (what, n)) None = sym (ap (λ b. cond b (Some (what, n)) None) is) ∙ none in cc
-    go false is = ltb-false greatest n is
-
-neither : (a b : Option (Counted × ℕ)) → or_else a b ≡ None → (a ≡ None) × (b ≡ None)
-neither None b none = (refl, none)
-neither (Some what) b none = let wrong : ◌≡◌ {A = Option (Counted × ℕ)} (Some what) None = none in cc
 
 -- ---- one line more
 -- what holds after a line
@@ -194,20 +185,11 @@ leads (Placed rails n inputs k) t ts fine is = after_output (Placed rails n inpu
 leads (Closed net) t ts fine is = after_count net ts t fine.0 fine.1 is
 leads (Listing m net) t ts fine is = after_listing m net ts t fine is
 
-pub kept_judged : (number : ℕ) (s t : Place) (ts : List Plain) → IsKept s → judged number (follow s ts) ≡ Read t → IsKept t
-kept_judged number s t ts kept is = go (follow s ts) refl is
-  where
-    go : (o : Option Place) → follow s ts ≡ o → judged number o ≡ Read t → IsKept t
-    go None e there = let wrong : ◌≡◌ {A = Answer Place (Counted × ℕ)} (Malformed number) (Read t) = there in cc
-    go (Some u) e there = low (limit u) refl
-      where
-        low : (l : Option (Counted × ℕ)) → limit u ≡ l → IsKept t
-        low None none =
-            let same : ◌≡◌ {A = Answer Place (Counted × ℕ)} (Read u) (Read t) = sym (ap (λ l. option_map_or (λ what. Limited what) l (Read u)) none) ∙ there in
-            let alike : u ≡ t = cc in
-            let (fine, few) = leads s u ts kept.0 e in
-            subst IsKept alike (fine, few kept.1 none)
-        low (Some what) past = let wrong : ◌≡◌ {A = Answer Place (Counted × ℕ)} (Limited what) (Read t) = sym (ap (λ l. option_map_or (λ w. Limited w) l (Read u)) past) ∙ there in cc
+pub kept_judged : (number : ℕ) (s t : Place) (ts : List Plain) → IsKept s → judged limit number (follow s ts) ≡ Read t → IsKept t
+kept_judged number s t ts kept is =
+    let (there, low) = judged_read limit number (follow s ts) t is in
+    let (fine, few) = leads s t ts kept.0 there in
+    (fine, few kept.1 low)
 
 -- ---- each place can end
 abbrev CanStop : Place → Type 0

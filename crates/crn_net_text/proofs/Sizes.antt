@@ -1,26 +1,23 @@
 -- A text passes no limit exactly where its network is within the limits.
 use Rattle.std.proofs.Common.{◌≡◌, ℕ, zero, suc, ◌+◌, ◌<◌, ◌≤◌, Bool, true, false, cond, ◌&&◌, ◌==◌, List, [], ◌∷◌, ◌++◌, length, take, Option, Some, None, refl, sym, ap, ap₂, ◌∙◌, subst, arith, length-append}
-use Rattle.std.proofs.lemmas.Bool.{le-ltb}
 use Rattle.std.specs.Prelude.{codes}
 use Rattle.std.specs.Option.{option_map, option_and_then}
 use Rattle.crn_token.specs.declared.Counted.{Counted}
 use Rattle.crn_token.specs.declared.Counted.TheVariants as counted
 use Rattle.crn_token.specs.Plain.{Plain, PlainLine}
 use Rattle.crn_grammar.specs.Table.{IsText, PassesNone, after}
-use Rattle.crn_function_text.specs.Words.{rest_of, says}
-use Rattle.crn_function_text.specs.Grammar.{above, or_else}
+use Rattle.crn_token.specs.Words.{rest_of, says, begins}
+use Rattle.crn_grammar.specs.Limits.{or_else}
+use Rattle.crn_grammar.proofs.LimitLaws.{not_above}
 use Rattle.crn_net.specs.Network.{Network}
 use Rattle.crn_net.specs.Limits.{IsWithinLimits}
 use Rattle.crn_net.specs.declared.Rails.{Rails}
 use Rattle.crn_net.specs.declared.Ends.{Ends}
-use Rattle.crn_net_text.specs.Grammar.{Place, Start, Titled, Naming, Placed, Closed, Listing, frame, with_reaction, begins, number_of, one_of, ends_of, is_named, is_new, leaves_one, with_input, with_context, with_output, after_inputs, naming, reaction_of, follow, limit, network_table}
+use Rattle.crn_net_text.specs.Grammar.{Place, Start, Titled, Naming, Placed, Closed, Listing, frame, with_reaction, number_of, one_of, ends_of, is_named, is_new, leaves_one, with_input, with_context, with_output, after_inputs, naming, reaction_of, follow, limit, network_table}
 use Rattle.crn_net_text.specs.Reading.{IsFine, AreFew, IsLow}
 use Rattle.crn_net_text.proofs.Found.{some_same, then_found, map_found, if_found, else_found}
 use Rattle.crn_net_text.proofs.Kept.{leads}
 use Rattle.crn_net_text.proofs.Spelled.{whole_at}
-
-not_above : (greatest : ℕ) (what : Counted) (n : ℕ) → n ≤ greatest → above greatest what n ≡ None
-not_above greatest what n few = ap (λ b. cond b (Some (what, n)) None) (le-ltb greatest n few)
 
 low_passes : (s : Place) → IsLow s → limit s ≡ None
 low_passes Start low = refl

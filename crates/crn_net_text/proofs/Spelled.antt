@@ -9,19 +9,20 @@ use Rattle.crn_token.specs.declared.Sign.TheVariants.{Plus, Arrow}
 use Rattle.crn_token.specs.Plain.{Plain, PlainLine, PlainWord, PlainNumber, PlainSign}
 use Rattle.crn_token.specs.Printed.{Item, Blank, shown}
 use Rattle.crn_grammar.specs.Table.{IsText, after}
-use Rattle.crn_function_text.specs.Words.{rest_of, says}
+use Rattle.crn_token.specs.Words.{rest_of, says, begins, number_at}
 use Rattle.crn_net.specs.Network.{Part, Reaction, Network}
 use Rattle.crn_net.specs.declared.Rails.{Rails}
 use Rattle.crn_net.specs.declared.Rails.TheVariants.{Dual, Direct}
 use Rattle.crn_net.specs.declared.Ends.{Ends}
 use Rattle.crn_net.specs.declared.Ends.TheVariants.{Pair, One}
 use Rattle.crn_net_text.specs.NetworkText.{word, number, symbol, rails_word, side_items, gives_items, reaction_items, ends_items, count_line, input_line, context_lines, output_line, header_lines, ends_lines, network_lines}
-use Rattle.crn_net_text.specs.Grammar.{Say, IsNetworkText, Place, Start, Titled, Naming, Placed, Closed, Listing, least, frame, with_reaction, begins, number_at, number_of, is_plus, is_arrow, is_nothing, within, species_at, many, part_by, part_at, side_at, side_of, gives_of, reaction_with, reaction_of, one_of, pair_with, ends_of, is_named, is_new, leaves_one, rails_of, version_of, title_with, title, sized, size, with_input, with_context, with_output, after_inputs, naming, count, listing, follow, whole, network_table}
+use Rattle.crn_net_text.specs.Grammar.{Say, IsNetworkText, Place, Start, Titled, Naming, Placed, Closed, Listing, least, frame, with_reaction, number_of, is_plus, is_arrow, is_nothing, within, species_at, many, part_by, part_at, side_at, side_of, gives_of, reaction_with, reaction_of, one_of, pair_with, ends_of, is_named, is_new, leaves_one, rails_of, version_of, title_with, title, sized, size, with_input, with_context, with_output, after_inputs, naming, count, listing, follow, whole, network_table}
 use Rattle.crn_net_text.specs.Reading.{IsFine}
 use Rattle.crn_net_text.proofs.Found.{some_same, then_found, map_found, if_found, else_found, within_found, next_side}
 use Rattle.crn_net_text.proofs.Kept.{leads}
 use Rattle.crn_net_text.proofs.Readers.{none_read}
-use Rattle.crn_net_text.proofs.Spells.{shown-append, species_tokens, part_tokens, size_of, part_left, side_tokens, side_size, side_shown, side_long, side_left}
+use Rattle.crn_token.proofs.Joins.{shown-append}
+use Rattle.crn_net_text.proofs.Spells.{species_tokens, part_tokens, size_of, part_left, side_tokens, side_size, side_shown, side_long, side_left}
 
 -- ---- the first tokens
 word_found : (w : List ℕ) (ts : List Plain) → begins w ts ≡ true → ts ≡ PlainWord w ∷ rest_of ts
