@@ -5,6 +5,5 @@ pub mod LineLaws
 pub mod TailSteps
 pub mod States
 pub mod RunSteps
-pub mod FollowedLaws
 pub mod JobLaws
 pub mod RunLaws

@@ -1,11 +1,12 @@
 use Rattle.std.proofs.Common.{◌+◌, ◌<◌, ◌≤◌, length, drop, map, ap, subst, arith}
 use Rattle.crn_token.specs.Plain.{plain_token, plain_lines}
-use Rattle.crn_function_text.proofs.Steps.{line_at, past_lines, lines_within, count_is}
+use Rattle.crn_token.proofs.LineLaws.{line_at, past_lines, lines_within, count_is}
 use Rattle.crn_job.specs.Grammar.{tail_follow, tail_table, tail_answer}
-use Rattle.crn_job.specs.Reading.{Gives, tail_of, value_of}
-use Rattle.crn_job.proofs.LineLaws.{turn_read, turn_refused, turn_ends}
+use Rattle.crn_grammar.specs.Reading.{Gives}
+use Rattle.crn_job.specs.Reading.{tail_of, value_of}
+use Rattle.crn_grammar.proofs.Turns.{turn_read, turn_refused, turn_ends}
 use Rattle.crn_job.proofs.TailSteps.{line_next, kept_judged}
-use Rattle.crn_job.proofs.read_job_tail.Goals as goal
+use Rattle.crn_job.proofs.read_tail.Goals as goal
 
 pub returns-in-Err-clause-answer : goal.returns-in-Err-clause-answer
 returns-in-Err-clause-answer c =
