@@ -15,7 +15,8 @@ use Rattle.crn_form_text.specs.declared.formula.Item.TheVariants as item
 use Rattle.crn_form_text.specs.Grammar.{SpellsFormula, narrow}
 use Rattle.crn_form_text.specs.Reading.{keep, Walk, walks, mark_of, whole_of}
 use Rattle.crn_form_text.specs.Built.{applied, postfix, builds, only, fitted, IsWalkOf}
-use Rattle.crn_form_text.proofs.Puts.{none_some, some_alike}
+use Rattle.crn_form_text.proofs.Puts.{none_some}
+use Rattle.crn_token.proofs.Options.{some_alike}
 use Rattle.crn_form_text.proofs.WalkRuns.{kept, walk_spelled}
 use Rattle.crn_form_text.proofs.WalkWritten.{walk_written}
 

@@ -1,5 +1,6 @@
 -- A form is read from exactly the tokens that spell it.
 use Rattle.std.proofs.Common.{◌≡◌, ℕ, suc, ◌<◌, ltb, pos, Bool, true, false, cond, List, [], ◌∷◌, ◌++◌, length, map, Option, Some, None, IfSome, refl, sym, ap, ◌∙◌, subst, ⊎_elim, arith, append_assoc, append-nil, lt-ltb, ltb-true}
+use Rattle.std.proofs.lemmas.List.{map-append}
 use Rattle.std.specs.Prelude.{codes}
 use Rattle.std.specs.Option.{option_and_then, option_map}
 use Rattle.crn_grammar.specs.Table.{after}
@@ -15,7 +16,8 @@ use Rattle.crn_form_text.specs.declared.form.Place.TheVariants as place
 use Rattle.crn_form_text.specs.Grammar.{Whole, Over, Term, Variable, Multiple, Constant, Signed, minus_before, sign_before, term_tokens, more_tokens, form_tokens, column_of, coefficient_of, coefficient, IsTermOver, AreTermsOver, signed}
 use Rattle.crn_form_text.specs.Reading.{FormState, at_place, put, closed, term_next, in_term_next, name_next, form_next, no_entries, forms, mark_of, count_next, count_value, factor_of}
 use Rattle.crn_form_text.proofs.Marks.{IsMarked, marked}
-use Rattle.crn_form_text.proofs.Puts.{none_some, some_alike, puts}
+use Rattle.crn_form_text.proofs.Puts.{none_some, puts}
+use Rattle.crn_token.proofs.Options.{some_alike}
 use Rattle.crn_form_text.proofs.NumberLaws.{WrittenCount, count_step, over_whole, value_written, IsFactor, factor_written}
 
 -- ---- the text of a form is read
@@ -50,13 +52,9 @@ sign_next k (place.Named q) es fs negative e = absurd (none_some fs e)
 sign_next k place.Ended es fs true e = ap (option_map (λ l. at_place (place.Term true count.Empty) l)) e
 sign_next k place.Ended es fs false e = ap (option_map (λ l. at_place (place.Term false count.Empty) l)) e
 
-map_append : (xs ys : List Plain) → map mark_of (xs ++ ys) ≡ map mark_of xs ++ map mark_of ys
-map_append [] ys = refl
-map_append (x ∷ xs) ys = ap (λ l. mark_of x ∷ l) (map_append xs ys)
-
 -- some tokens, and then more
 pub runs_on : (k : ℕ) (s u : FormState) (xs ys : List Plain) (es : List (Option ℚ)) → after (forms k) s (map mark_of xs) ≡ Some u → RunsTo k u ys es → RunsTo k s (xs ++ ys) es
-runs_on k s u xs ys es there (v, more, ends) = (v, ap (after (forms k) s) (map_append xs ys) ∙ after_then (forms k) s u (map mark_of xs) (map mark_of ys) there ∙ more, ends)
+runs_on k s u xs ys es there (v, more, ends) = (v, ap (after (forms k) s) (map-append mark_of xs ys) ∙ after_then (forms k) s u (map mark_of xs) (map mark_of ys) there ∙ more, ends)
 
 more_run : (k : ℕ) (terms : List Signed) (s : FormState) (es fs : List (Option ℚ)) → closed k s.place s.entries ≡ Some es → AreTermsOver k terms → puts k es terms ≡ Some fs → RunsTo k s (more_tokens terms) fs
 more_run k [] s es fs ends over e = (s, refl, ends ∙ e)

@@ -9,7 +9,8 @@ use Rattle.crn_token.specs.Plain.{Plain}
 use Rattle.crn_fraction.specs.Rational.{ℚ, 0ℚ}
 use Rattle.crn_form_text.specs.Grammar.{Signed, column_of, AreTermsOver, entry_in, AreTermsOf, SpellsForm}
 use Rattle.crn_form_text.specs.Reading.{FormState, closed, no_entries, form_with, forms, mark_of, form_of}
-use Rattle.crn_form_text.proofs.Puts.{none_some, some_alike, puts, AllFree, can_put, WerePut, were_put, entry_or, entry_in-or}
+use Rattle.crn_form_text.proofs.Puts.{none_some, puts, AllFree, can_put, WerePut, were_put, entry_or, entry_in-or}
+use Rattle.crn_token.proofs.Options.{some_alike}
 use Rattle.crn_form_text.proofs.FormLaws.{form_run, form_read}
 
 abbrev nones : ℕ → List (Option ℚ)

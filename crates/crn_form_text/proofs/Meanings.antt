@@ -14,7 +14,8 @@ use Rattle.crn_formula.specs.Formulas.{Formula, node_count}
 use Rattle.crn_form_text.specs.Grammar.{Numeral, Whole, Over, form_tokens, AreTermsOf, fraction, Term, Variable, Multiple, Constant, Signed, column_of, coefficient_of, IsPlainTerm, ArePlain, entry_in, SpellsForm, SpellsPlain, SpellsFormula}
 use Rattle.crn_form_text.specs.Reading.{form_with, plain_forms, whole_of, mark_of}
 use Rattle.crn_form_text.specs.Built.{postfix, builds}
-use Rattle.crn_form_text.proofs.Puts.{none_some, some_alike}
+use Rattle.crn_form_text.proofs.Puts.{none_some}
+use Rattle.crn_token.proofs.Options.{some_alike}
 use Rattle.crn_form_text.proofs.FormSpells.{spelled_form}
 use Rattle.crn_form_text.proofs.FormSpells.{terms_put}
 use Rattle.crn_form_text.proofs.PlainLaws.{plain_run}

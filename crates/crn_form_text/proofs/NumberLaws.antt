@@ -11,7 +11,8 @@ use Rattle.crn_form_text.specs.declared.number.Count.TheVariants as count
 use Rattle.crn_form_text.specs.Grammar.{Numeral, Whole, Over, numeral_tokens, signed, fraction}
 use Rattle.crn_form_text.specs.Reading.{count_next, count_value, factor_of}
 use Rattle.crn_form_text.proofs.Marks.{IsMarked}
-use Rattle.crn_form_text.proofs.Puts.{none_some, some_alike}
+use Rattle.crn_form_text.proofs.Puts.{none_some}
+use Rattle.crn_token.proofs.Options.{some_alike}
 
 abbrev pub WrittenCount : (negative : Bool) → Count → List Plain → Type 0
 WrittenCount negative count.Empty p = p ≡ []

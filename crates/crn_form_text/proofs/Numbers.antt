@@ -7,7 +7,8 @@ use Rattle.crn_token.specs.Plain.{Plain, PlainWord, PlainNumber, PlainSign}
 use Rattle.crn_fraction.specs.Rational.{ℚ}
 use Rattle.crn_form_text.specs.Grammar.{Numeral, Whole, Over, numeral_tokens, fraction, SpellsNumber, IsLongestNumber, BeginsNoNumber}
 use Rattle.crn_form_text.specs.Reading.{denominator_at, fraction_after, fraction_at}
-use Rattle.crn_form_text.proofs.Puts.{none_some, some_alike}
+use Rattle.crn_form_text.proofs.Puts.{none_some}
+use Rattle.crn_token.proofs.Options.{some_alike}
 
 -- a text of a number has one token or three
 number_long : (ts : List Plain) (m : ℕ) (r : ℚ) → m ≤ length ts → SpellsNumber r (take m ts) → (m ≡ 1) ⊎ (m ≡ 3)

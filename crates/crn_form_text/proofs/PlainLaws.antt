@@ -1,5 +1,6 @@
 -- Forms without negative coefficients are read from exactly the tokens that spell them.
 use Rattle.std.proofs.Common.{◌≡◌, ℕ, suc, ◌<◌, ltb, pos, Bool, true, false, cond, List, [], ◌∷◌, ◌++◌, length, map, Option, Some, None, IfSome, refl, sym, ap, ◌∙◌, subst, ⊎_elim, arith, append_assoc, append-nil, lt-ltb, ltb-true}
+use Rattle.std.proofs.lemmas.List.{map-append}
 use Rattle.std.specs.Prelude.{codes}
 use Rattle.std.specs.Option.{option_and_then, option_map}
 use Rattle.crn_grammar.specs.Table.{after}
@@ -15,7 +16,8 @@ use Rattle.crn_form_text.specs.declared.form.Place.TheVariants as place
 use Rattle.crn_form_text.specs.Grammar.{Whole, Over, Term, Variable, Multiple, Constant, Signed, minus_before, sign_before, term_tokens, more_tokens, form_tokens, column_of, coefficient_of, coefficient, IsTermOver, AreTermsOver, IsPlainTerm, ArePlain}
 use Rattle.crn_form_text.specs.Reading.{FormState, at_place, put, term_next, in_term_next, name_next, plain_next, no_entries, plain_forms, mark_of, count_next, factor_of}
 use Rattle.crn_form_text.proofs.Marks.{IsMarked, marked}
-use Rattle.crn_form_text.proofs.Puts.{none_some, some_alike, puts}
+use Rattle.crn_form_text.proofs.Puts.{none_some, puts}
+use Rattle.crn_token.proofs.Options.{some_alike}
 use Rattle.crn_form_text.proofs.NumberLaws.{WrittenCount, count_step, over_whole, IsFactor, factor_written}
 use Rattle.crn_form_text.proofs.FormLaws.{signed_term, sign_tokens, form_snoc, puts_snoc, over_snoc, long_snoc}
 
@@ -44,12 +46,8 @@ first_run k es fs (Multiple (Whole n) column) plain run = run
 first_run k es fs (Multiple (Over n x) column) plain run = run
 first_run k es fs (Constant n) plain run = absurd plain
 
-map_append : (xs ys : List Plain) → map mark_of (xs ++ ys) ≡ map mark_of xs ++ map mark_of ys
-map_append [] ys = refl
-map_append (x ∷ xs) ys = ap (λ l. mark_of x ∷ l) (map_append xs ys)
-
 leads_on : (k : ℕ) (s u v : FormState) (xs ys : List Plain) → Leads k s xs u → Leads k u ys v → Leads k s (xs ++ ys) v
-leads_on k s u v xs ys first then = ap (after (plain_forms k) s) (map_append xs ys) ∙ after_then (plain_forms k) s u (map mark_of xs) (map mark_of ys) first ∙ then
+leads_on k s u v xs ys first then = ap (after (plain_forms k) s) (map-append mark_of xs ys) ∙ after_then (plain_forms k) s u (map mark_of xs) (map mark_of ys) first ∙ then
 
 more_run : (k : ℕ) (terms : List Signed) (es fs : List (Option ℚ)) → AreTermsOver k terms → ArePlain terms → puts k es terms ≡ Some fs → Leads k (ended_at es) (more_tokens terms) (ended_at fs)
 more_run k [] es fs over plain e = ap (λ l. Some (ended_at l)) (some_alike es fs e)

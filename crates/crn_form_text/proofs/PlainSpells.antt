@@ -13,7 +13,8 @@ use Rattle.crn_form_text.specs.declared.form.Place.TheVariants as place
 use Rattle.crn_form_text.specs.Grammar.{SpellsPlain, IsLongestPlain, BeginsNoPlain}
 use Rattle.crn_form_text.specs.Reading.{FormState, at_place, no_entries, form_with, plain_whole, plain_forms, whole_of, or_before, longest_from, zero_at, plain_form_at, mark_of}
 use Rattle.crn_form_text.proofs.Marks.{IsMarked, marked}
-use Rattle.crn_form_text.proofs.Puts.{none_some, some_alike}
+use Rattle.crn_form_text.proofs.Puts.{none_some}
+use Rattle.crn_token.proofs.Options.{some_alike}
 use Rattle.crn_form_text.proofs.FormSpells.{read_terms, terms_put}
 use Rattle.crn_form_text.proofs.PlainLaws.{plain_run, plain_read}
 

@@ -7,6 +7,8 @@ use Rattle.std.proofs.Math.ListN.{get_or-append}
 use Rattle.crn_token.specs.declared.Sign.TheVariants.{LeftParen, RightParen, Comma}
 use Rattle.crn_token.specs.Plain.{Plain, PlainWord, PlainSign}
 use Rattle.crn_token.specs.Printed.{Item, Shown, Blank, shown}
+use Rattle.crn_token.proofs.Printed.{and_first, and_second}
+use Rattle.crn_token.proofs.Joins.{shown-append}
 use Rattle.crn_fraction.specs.Rational.{ℚ, 0ℚ, whole, ◌/ℚ◌, is_zero_ℚ}
 use Rattle.crn_fraction.proofs.Products.{is_zero_ℚ_cases, /ℚ-one}
 use Rattle.crn_fraction.proofs.Values.{parts_quotient}
@@ -16,11 +18,6 @@ use Rattle.crn_form_text.specs.Grammar.{numeral_tokens, signed, fraction, term_t
 use Rattle.crn_form_text.specs.Printing.{numeral_of, is_negative, is_below, has_size_1, variable_term, variable_terms, constant_terms, or_zero, printed_terms, closed_up, spaced_sign, more_items, terms_items, form_items, fraction_items, call_items, formula_items, with_constant, with_constants, HasColumnsFor}
 
 -- ---- tokens
-pub shown_append : (xs ys : List Item) → shown (xs ++ ys) ≡ shown xs ++ shown ys
-shown_append [] ys = refl
-shown_append (Blank ∷ xs) ys = shown_append xs ys
-shown_append (Shown t ∷ xs) ys = ap (λ l. t ∷ l) (shown_append xs ys)
-
 shown_closed : (ts : List Plain) → shown (closed_up ts) ≡ ts
 shown_closed [] = refl
 shown_closed (t ∷ ts) = ap (λ l. t ∷ l) (shown_closed ts)
@@ -32,14 +29,14 @@ shown_sign false = refl
 shown_more : (terms : List Signed) → shown (more_items terms) ≡ more_tokens terms
 shown_more [] = refl
 shown_more (t ∷ terms) =
-    shown_append (spaced_sign t.negative ++ closed_up (term_tokens t.term)) (more_items terms)
-    ∙ ap₂ (λ a b. a ++ b) (shown_append (spaced_sign t.negative) (closed_up (term_tokens t.term)) ∙ ap₂ (λ a b. a ++ b) (shown_sign t.negative) (shown_closed (term_tokens t.term))) (shown_more terms)
+    shown-append (spaced_sign t.negative ++ closed_up (term_tokens t.term)) (more_items terms)
+    ∙ ap₂ (λ a b. a ++ b) (shown-append (spaced_sign t.negative) (closed_up (term_tokens t.term)) ∙ ap₂ (λ a b. a ++ b) (shown_sign t.negative) (shown_closed (term_tokens t.term))) (shown_more terms)
 
 pub shown_terms : (terms : List Signed) → shown (terms_items terms) ≡ form_tokens terms
 shown_terms [] = refl
 shown_terms (t ∷ terms) =
-    shown_append (closed_up (minus_before t.negative) ++ closed_up (term_tokens t.term)) (more_items terms)
-    ∙ ap₂ (λ a b. a ++ b) (shown_append (closed_up (minus_before t.negative)) (closed_up (term_tokens t.term)) ∙ ap₂ (λ a b. a ++ b) (shown_closed (minus_before t.negative)) (shown_closed (term_tokens t.term))) (shown_more terms)
+    shown-append (closed_up (minus_before t.negative) ++ closed_up (term_tokens t.term)) (more_items terms)
+    ∙ ap₂ (λ a b. a ++ b) (shown-append (closed_up (minus_before t.negative)) (closed_up (term_tokens t.term)) ∙ ap₂ (λ a b. a ++ b) (shown_closed (minus_before t.negative)) (shown_closed (term_tokens t.term))) (shown_more terms)
 
 -- ---- numbers
 signed_back : (n : ℤ) → signed (is_negative n) (unsigned_abs n) ≡ n
@@ -58,18 +55,10 @@ numeral_back q =
     (cases_Bool (eqb q.den 1))
 
 -- ---- terms
-and_left : (a b : Bool) → a && b ≡ true → a ≡ true
-and_left true b e = refl
-and_left false b e = absurd (cc e)
-
-and_right : (a b : Bool) → a && b ≡ true → b ≡ true
-and_right true b e = e
-and_right false b e = absurd (cc e)
-
 unit_back : (q : ℚ) → has_size_1 q ≡ true → whole (signed (is_below q) 1) ≡ q
 unit_back q e =
-    let size : unsigned_abs q.num ≡ 1 = eqb-true _ _ (and_left _ _ e) in
-    let one : eqb q.den 1 ≡ true = and_right _ _ e in
+    let size : unsigned_abs q.num ≡ 1 = eqb-true _ _ (and_first _ _ e) in
+    let one : eqb q.den 1 ≡ true = and_second _ _ e in
     ap (λ n. whole (signed (is_below q) n)) (sym size) ∙ ap whole (signed_back q.num) ∙ sym (/ℚ-one (whole q.num))
     ∙ ap (λ d. whole q.num /ℚ whole (pos d)) (sym (eqb-true _ _ one)) ∙ parts_quotient q
 
@@ -212,8 +201,8 @@ fraction_printed q = (is_below q, numeral_of q, shown_closed (minus_before (is_b
 call_shown : (word : List ℕ) (a b : List Item) → shown (call_items word a b) ≡ call word (pair (shown a) (shown b))
 call_shown word a b =
     ap (λ l. PlainWord word ∷ PlainSign LeftParen ∷ l)
-    (shown_append (a ++ Shown (PlainSign Comma) ∷ Blank ∷ [] ++ b) (Shown (PlainSign RightParen) ∷ [])
-    ∙ ap (λ l. l ++ PlainSign RightParen ∷ []) (shown_append (a ++ Shown (PlainSign Comma) ∷ Blank ∷ []) b ∙ ap (λ l. l ++ shown b) (shown_append a (Shown (PlainSign Comma) ∷ Blank ∷ []))))
+    (shown-append (a ++ Shown (PlainSign Comma) ∷ Blank ∷ [] ++ b) (Shown (PlainSign RightParen) ∷ [])
+    ∙ ap (λ l. l ++ PlainSign RightParen ∷ []) (shown-append (a ++ Shown (PlainSign Comma) ∷ Blank ∷ []) b ∙ ap (λ l. l ++ shown b) (shown-append a (Shown (PlainSign Comma) ∷ Blank ∷ []))))
 
 -- the tokens of a printed formula spell it
 pub formula_printed : (k : ℕ) (e : Formula) → HasColumnsFor k e → SpellsFormula k (with_constants k e) (shown (formula_items k e))

@@ -7,12 +7,10 @@ use Rattle.std.proofs.lemmas.Bool.{cases_Bool, eqb-false}
 use Rattle.crn_fraction.specs.Rational.{ℚ, 0ℚ}
 use Rattle.crn_form_text.specs.Grammar.{Term, Variable, Multiple, Constant, Signed, column_of, coefficient, AreTermsOver, IsTermOver, IsFree, StandOnce, entry_in}
 use Rattle.crn_form_text.specs.Reading.{put}
+use Rattle.crn_token.proofs.Options.{some_alike}
 
 pub none_some : {A : Type 0} (a : A) → None ≡ Some a → ⊥
 none_some a e = cc
-
-pub some_alike : {A : Type 0} (a b : A) → Some a ≡ Some b → a ≡ b
-some_alike a b e = cc
 
 -- the terms are put one after another
 abbrev pub puts : ℕ → List (Option ℚ) → List Signed → Option (List (Option ℚ))

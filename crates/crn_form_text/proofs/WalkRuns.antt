@@ -1,5 +1,6 @@
 -- The text of a formula is walked whole, and counted right.
 use Rattle.std.proofs.Common.{◌≡◌, ℕ, suc, ◌+◌, ◌≤◌, max, Bool, true, false, ◌||◌, pos, List, [], ◌∷◌, ◌++◌, length, map, Option, Some, None, refl, sym, ap, ◌∙◌, subst, arith}
+use Rattle.std.proofs.lemmas.List.{map-append}
 use Rattle.std.specs.Prelude.{codes}
 use Rattle.std.specs.Option.{option_and_then, option_map}
 use Rattle.crn_grammar.specs.Table.{after}
@@ -23,21 +24,18 @@ use Rattle.crn_form_text.specs.Grammar.{Numeral, Whole, Over, numeral_tokens, mi
 use Rattle.crn_form_text.specs.Reading.{FormState, closed, form_next, no_entries, form_with, forms, mark_of, factor_value, keep, Mode, Want, Opens, Scales, InFactor, InForm, Have, Walk, at_mode, with_leaf, with_mode, opened, having, comma, close, walk_next, nothing_open, walks, whole_of}
 use Rattle.crn_form_text.specs.Built.{postfix}
 use Rattle.crn_form_text.proofs.Marks.{word_of}
-use Rattle.crn_form_text.proofs.Puts.{none_some, some_alike}
+use Rattle.crn_form_text.proofs.Puts.{none_some}
+use Rattle.crn_token.proofs.Options.{some_alike}
 use Rattle.crn_form_text.proofs.NumberLaws.{over_whole}
 use Rattle.crn_form_text.proofs.FormLaws.{form_run}
 use Rattle.crn_form_text.proofs.FormSpells.{terms_put}
-
-map_append : (xs ys : List Plain) → map mark_of (xs ++ ys) ≡ map mark_of xs ++ map mark_of ys
-map_append [] ys = refl
-map_append (x ∷ xs) ys = ap (λ l. mark_of x ∷ l) (map_append xs ys)
 
 -- where these tokens lead
 abbrev Leads : ℕ → Walk → List Plain → Walk → Type 0
 Leads k w tokens v = after (walks k) w (map mark_of tokens) ≡ Some v
 
 leads_on : (k : ℕ) (w v u : Walk) (xs ys : List Plain) → Leads k w xs v → Leads k v ys u → Leads k w (xs ++ ys) u
-leads_on k w v u xs ys first then = ap (after (walks k) w) (map_append xs ys) ∙ after_then (walks k) w v (map mark_of xs) (map mark_of ys) first ∙ then
+leads_on k w v u xs ys first then = ap (after (walks k) w) (map-append mark_of xs ys) ∙ after_then (walks k) w v (map mark_of xs) (map mark_of ys) first ∙ then
 
 -- after these tokens a formula is whole, which leads here
 abbrev pub Runs : ℕ → Walk → List Plain → Walk → Type 0

@@ -21,7 +21,8 @@ use Rattle.crn_form_text.specs.Grammar.{minus_before, SpellsSigned, SpellsFormul
 use Rattle.crn_form_text.specs.Reading.{FormState, closed, form_next, no_entries, form_with, mark_of, count_next, number_next, factor_next, factor_value, Mode, Want, Opens, Scales, InFactor, InForm, Have, Walk, with_leaf, with_mode, opened, having, comma, close, want_next, in_factor_next, in_form_next, after_form, walk_next, nothing_open, walks, whole_of}
 use Rattle.crn_form_text.specs.Built.{applied}
 use Rattle.crn_form_text.proofs.Marks.{IsMarked, marked, word_of}
-use Rattle.crn_form_text.proofs.Puts.{none_some, some_alike}
+use Rattle.crn_form_text.proofs.Puts.{none_some}
+use Rattle.crn_token.proofs.Options.{some_alike}
 use Rattle.crn_form_text.proofs.NumberLaws.{WrittenCount, count_step, value_written}
 use Rattle.crn_form_text.proofs.FormLaws.{Written, StateWritten, form_written, closed_written}
 use Rattle.crn_form_text.proofs.FormSpells.{read_terms}

@@ -1,8 +1,11 @@
-ghost use Rattle.std.specs.Prelude.{◌≡◌, slice_range};
+//! Tokens as far as the grammar of forms and formulas tells them apart.
+
+ghost use Rattle.std.specs.Prelude.{◌≡◌};
 ghost use Rattle.crn_token.specs.Plain.{plain_token};
 ghost use Rattle.crn_form_text.specs.Reading.{word_mark, sign_mark, mark_of};
 
-use crn_token::{Sign, Span, Token};
+use crn_token::words::letters;
+use crn_token::{Sign, Token};
 
 /// An operator with two operands.
 #[derive(Clone, Copy, Debug, PartialEq, Eq)]
@@ -30,15 +33,6 @@ pub(crate) enum Mark {
     Left,
     Right,
     Other,
-}
-
-// The bytes of a span, as far as there are any.
-fn letters(bytes: &[u8], span: Span) -> &[u8]
-    ensures { result.now ≡ slice_range bytes.now span.start span.end }
-{
-    let end = span.end.min(bytes.len());
-    let start = span.start.min(end);
-    &bytes[start..end]
 }
 
 fn word_mark(letters: &[u8]) -> Mark

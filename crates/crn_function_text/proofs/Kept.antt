@@ -12,8 +12,12 @@ use Rattle.crn_fraction.specs.Rational.{ℚ, 0ℚ, ◌≤ℚ◌}
 use Rattle.crn_token.specs.declared.Counted.{Counted}
 use Rattle.crn_token.specs.declared.Counted.TheVariants as counted
 use Rattle.crn_token.specs.Plain.{Plain, PlainLine, PlainWord, PlainNumber}
-use Rattle.crn_grammar.specs.Table.{Answer, Read, Malformed, Limited, IsText, PassesNone}
+use Rattle.crn_grammar.specs.Table.{Read, IsText, PassesNone}
 use Rattle.crn_grammar.proofs.TableLaws.{kept_to_the_end}
+use Rattle.crn_grammar.specs.Limits.{above, or_else}
+use Rattle.crn_grammar.specs.Reading.{judged}
+use Rattle.crn_grammar.proofs.LimitLaws.{not_passed, neither}
+use Rattle.crn_grammar.proofs.Turns.{judged_read}
 use Rattle.crn_formula.specs.Formulas.{node_count, depth_of}
 use Rattle.crn_formula.specs.Pieces.{Piece}
 use Rattle.crn_formula.specs.Functions.{IsPieceOver, IsFitting, condition_count}
@@ -23,24 +27,13 @@ use Rattle.crn_function_text.specs.declared.words.Word.{Word}
 use Rattle.crn_function_text.specs.declared.words.Word.TheVariants as word
 use Rattle.crn_function_text.specs.declared.words.Given.{Given}
 use Rattle.crn_function_text.specs.declared.words.Given.TheVariants as given
-use Rattle.crn_function_text.specs.Words.{first_word, rest_of, says, given_of}
+use Rattle.crn_token.specs.Words.{rest_of, says}
+use Rattle.crn_function_text.specs.Words.{first_word, given_of}
 use Rattle.crn_function_text.specs.Spelled.{formula_of}
-use Rattle.crn_function_text.specs.Grammar.{PlainFunction, function_table, whole, Place, Start, Header, Sized, Valued, InPieces, InForms, header, size, is_at_least_zero, condition_of, plain_form_of, new_piece, with_condition, follow, limit, above, or_else}
-use Rattle.crn_function_text.specs.Reading.{judged, IsKept}
+use Rattle.crn_function_text.specs.Grammar.{PlainFunction, function_table, whole, Place, Start, Header, Sized, Valued, InPieces, InForms, header, size, is_at_least_zero, condition_of, plain_form_of, new_piece, with_condition, follow, limit}
+use Rattle.crn_function_text.specs.Reading.{IsKept}
 use Rattle.crn_function_text.proofs.Spelled.{formula_spelled, spelled_over, form_long, plain_form_long, plain_form_nonnegative}
 use Rattle.crn_function_text.proofs.Narrowing.{formula_fits, kept_fits, forms_fit, fitted_nodes, fitted_depth}
-
--- ---- limits that are not passed
-not_passed : (greatest : ℕ) (what : Counted) (count : ℕ) → above greatest what count ≡ None → count ≤ greatest
-not_passed greatest what count none = go (nat_lt greatest count) refl
-  where
-    go : (b : Bool) → nat_lt greatest count ≡ b → count ≤ greatest
-    go true is = let wrong : ◌≡◌ {A = Option (Counted × ℕ)} (Some (what, count)) None = sym (ap (λ b. cond b (Some (what, count)) None) is) ∙ none in cc
-    go false is = ltb-false greatest count is
-
-neither : {W : Type 0} (a b : Option W) → or_else a b ≡ None → (a ≡ None) × (b ≡ None)
-neither None b none = (refl, none)
-neither (Some what) b none = cc
 
 -- ---- the place after a line, if it passes no limit
 abbrev KeptNext : Option Place → Type 0
@@ -172,19 +165,11 @@ kept_follow (InForms k forms) word.Form rest kept = kept_form k forms rest kept.
 kept_follow _ _ rest kept = tt
 
 -- a line that leads on keeps what holds
-pub kept_judged : (number : ℕ) (s t : Place) (w : Word) (rest : List Plain) → IsKept s → judged number (follow s w rest) ≡ Read t → IsKept t
-kept_judged number s t w rest kept is = go (follow s w rest) is (kept_follow s w rest kept)
-  where
-    go : (o : Option Place) → judged number o ≡ Read t → KeptNext o → IsKept t
-    go None e next = let wrong : ◌≡◌ {A = Answer Place (Counted × ℕ)} (Malformed number) (Read t) = e in cc
-    go (Some u) e next = low (limit u) refl
-      where
-        low : (l : Option (Counted × ℕ)) → limit u ≡ l → IsKept t
-        low None none =
-            let same : ◌≡◌ {A = Answer Place (Counted × ℕ)} (Read u) (Read t) = sym (ap (λ l. option_map_or (λ w. Limited w) l (Read u)) none) ∙ e in
-            let alike : u ≡ t = cc in
-            subst IsKept alike (next none)
-        low (Some what) past = let wrong : ◌≡◌ {A = Answer Place (Counted × ℕ)} (Limited what) (Read t) = sym (ap (λ l. option_map_or (λ w. Limited w) l (Read u)) past) ∙ e in cc
+pub kept_judged : (number : ℕ) (s t : Place) (w : Word) (rest : List Plain) → IsKept s → judged limit number (follow s w rest) ≡ Read t → IsKept t
+kept_judged number s t w rest kept is =
+    let (there, low) = judged_read limit number (follow s w rest) t is in
+    let next : KeptNext (Some t) = subst KeptNext there (kept_follow s w rest kept) in
+    next low
 
 -- ---- a function that a text within the limits gives keeps the rule of functions
 

@@ -20,7 +20,8 @@ use Rattle.crn_function_text.specs.declared.words.Word.{Word}
 use Rattle.crn_function_text.specs.declared.words.Word.TheVariants as word
 use Rattle.crn_function_text.specs.declared.words.Given.{Given}
 use Rattle.crn_function_text.specs.declared.words.Given.TheVariants as given
-use Rattle.crn_function_text.specs.Words.{first_word, rest_of, says, given_of}
+use Rattle.crn_token.specs.Words.{rest_of, says}
+use Rattle.crn_function_text.specs.Words.{first_word, given_of}
 use Rattle.crn_function_text.specs.Columns.{kept_columns, narrow_piece}
 use Rattle.crn_function_text.specs.Spelled.{formula_of}
 use Rattle.crn_function_text.specs.Grammar.{PlainFunction, function_table, whole, Place, Start, Header, Sized, Valued, InPieces, InForms, header, size, is_at_least_zero, condition_of, plain_form_of, new_piece, with_condition, follow, limit}

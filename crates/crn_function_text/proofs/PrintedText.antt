@@ -9,7 +9,7 @@ use Rattle.std.proofs.lemmas.List.Sums.{sum_by-cons, sum_by-append}
 use Rattle.crn_token.specs.declared.Sign.TheVariants.{AtLeast}
 use Rattle.crn_token.specs.declared.Counted.{Counted}
 use Rattle.crn_token.specs.declared.Counted.TheVariants as counted
-use Rattle.crn_token.specs.Plain.{Plain, PlainLine, PlainWord, PlainNumber, PlainSign}
+use Rattle.crn_token.specs.Plain.{Plain, PlainLine, PlainWord, PlainNumber, PlainSign, line_number}
 use Rattle.crn_token.specs.Printed.{Item, Shown, Blank, shown, lines_read}
 use Rattle.crn_grammar.specs.Table.{Answer, Read, Malformed, Limited, answer, IsText, PassesNone, IsAnswer}
 use Rattle.crn_grammar.proofs.TableLaws.{answer_is}
@@ -25,15 +25,16 @@ use Rattle.crn_form_text.proofs.FormSpells.{spelled_form}
 use Rattle.crn_form_text.proofs.PlainSpells.{IsFound, plain_found}
 use Rattle.crn_form_text.proofs.PlainPrinted.{plain_printed}
 use Rattle.crn_form_text.proofs.Meanings.{one_plain}
-use Rattle.crn_form_text.proofs.PrintLaws.{form_printed, formula_printed, shown_append}
+use Rattle.crn_token.proofs.Joins.{shown-append}
+use Rattle.crn_form_text.proofs.PrintLaws.{form_printed, formula_printed}
 use Rattle.crn_function_text.specs.declared.words.Given.{Given}
 use Rattle.crn_function_text.specs.declared.words.Given.TheVariants as given
 use Rattle.crn_function_text.specs.Words.{given_of}
 use Rattle.crn_function_text.specs.Columns.{kept_columns}
-use Rattle.crn_function_text.specs.Grammar.{PlainFunction, Place, Start, Header, Sized, Valued, InPieces, InForms, condition_of, if_all, plain_form_of, size, new_piece, with_condition, next, limit, function_table, line_number}
+use Rattle.crn_function_text.specs.Grammar.{PlainFunction, Place, Start, Header, Sized, Valued, InPieces, InForms, condition_of, if_all, plain_form_of, size, new_piece, with_condition, next, limit, function_table}
 use Rattle.crn_function_text.specs.Printing.{function_lines, word_line, kind_word, kind_lines, value_line, piece_line, when_line, form_line, piece_lines}
 use Rattle.crn_function_text.proofs.Spelled.{formula_found}
-use Rattle.crn_function_text.proofs.ValueLaws.{not_above}
+use Rattle.crn_grammar.proofs.LimitLaws.{not_above}
 use Rattle.crn_function_text.proofs.GrammarLaws.{function_can_end}
 use Rattle.crn_function_text.proofs.PrintedColumns.{with_piece, columns_for, columns_least, constants_nodes, formula_back, pieces_back}
 
@@ -56,7 +57,7 @@ condition_at k ts =
 condition_reads : (k : ℕ) (form : List ℚ) → k ≤ 8 → k ≤ length form
     → condition_of k (shown (form_items k form ++ (Blank ∷ Shown (PlainSign AtLeast) ∷ Blank ∷ Shown (PlainNumber (pos 0)) ∷ []))) ≡ Some (with_constant k form)
 condition_reads k form few long =
-    ap (condition_of k) (shown_append (form_items k form) (Blank ∷ Shown (PlainSign AtLeast) ∷ Blank ∷ Shown (PlainNumber (pos 0)) ∷ []))
+    ap (condition_of k) (shown-append (form_items k form) (Blank ∷ Shown (PlainSign AtLeast) ∷ Blank ∷ Shown (PlainNumber (pos 0)) ∷ []))
     ∙ condition_at k (shown (form_items k form)) ∙ form_reads k form few long
 
 -- ---- one line more

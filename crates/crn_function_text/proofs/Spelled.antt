@@ -14,7 +14,8 @@ use Rattle.crn_token.specs.Plain.{Plain, PlainWord, PlainNumber}
 use Rattle.crn_form_text.specs.Grammar.{Numeral, Whole, Over, Term, Variable, Multiple, Constant, Signed, signed, fraction, coefficient, coefficient_of, column_of, entry_in, ArePlain, SpellsPlain, SpellsFormula, narrow}
 use Rattle.crn_form_text.specs.Reading.{Walk, walks, whole_of, mark_of, keep, no_entries, form_with, form_of, plain_form_at}
 use Rattle.crn_form_text.specs.Built.{postfix, builds, IsWalkOf}
-use Rattle.crn_form_text.proofs.Puts.{none_some, some_alike}
+use Rattle.crn_form_text.proofs.Puts.{none_some}
+use Rattle.crn_token.proofs.Options.{some_alike}
 use Rattle.crn_form_text.proofs.BuildLaws.{walk_is, built_whole, narrow_all, length-postfix}
 use Rattle.crn_form_text.proofs.WalkRuns.{kept, walk_spelled}
 use Rattle.crn_form_text.proofs.FormSpells.{form_spelled}

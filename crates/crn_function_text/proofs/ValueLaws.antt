@@ -1,39 +1,34 @@
 -- What is answered to a `value` line.
-use Rattle.std.proofs.Common.{◌≡◌, ℕ, ◌<◌, ◌≤◌, List, Option, Some, None, cond, refl, sym, ◌∙◌, ap, arith}
-use Rattle.std.proofs.lemmas.Bool.{lt-ltb, le-ltb}
+use Rattle.std.proofs.Common.{◌≡◌, ℕ, ◌<◌, ◌≤◌, List, Option, Some, None, refl, sym, ◌∙◌, ap, arith}
 use Rattle.std.specs.Option.{option_map}
 use Rattle.crn_token.specs.declared.Counted.{Counted}
 use Rattle.crn_token.specs.declared.Counted.TheVariants as counted
 use Rattle.crn_token.specs.Plain.{Plain}
 use Rattle.crn_grammar.specs.Table.{Answer, Read, Malformed, Limited}
+use Rattle.crn_grammar.specs.Limits.{above}
+use Rattle.crn_grammar.specs.Reading.{judged}
+use Rattle.crn_grammar.proofs.LimitLaws.{not_above, is_above}
 use Rattle.crn_formula.specs.Formulas as formulas
 use Rattle.crn_formula.specs.Formulas.{node_count, depth_of}
 use Rattle.crn_form_text.specs.Grammar.{SpellsFormula}
 use Rattle.crn_form_text.specs.Built.{fitted}
 use Rattle.crn_function_text.specs.Spelled.{formula_of}
-use Rattle.crn_function_text.specs.Grammar.{Place, Valued, above}
-use Rattle.crn_function_text.specs.Reading.{judged}
+use Rattle.crn_function_text.specs.Grammar.{Place, Valued, limit}
 use Rattle.crn_function_text.proofs.Spelled.{formula_found, formula_spelled}
 use Rattle.crn_function_text.proofs.Narrowing.{fitted_nodes, fitted_depth}
 
-pub not_above : (greatest : ℕ) (what : Counted) (count : ℕ) → count ≤ greatest → above greatest what count ≡ None
-not_above greatest what count h = ap (λ b. cond b (Some (what, count)) None) (le-ltb greatest count h)
-
-pub is_above : (greatest : ℕ) (what : Counted) (count : ℕ) → greatest < count → above greatest what count ≡ Some (what, count)
-is_above greatest what count h = ap (λ b. cond b (Some (what, count)) None) (lt-ltb greatest count h)
-
 -- the answer to a value line of these tokens
 abbrev valued : ℕ → ℕ → List Plain → Answer Place (Counted × ℕ)
-valued number k ts = judged number (option_map (λ e. Valued k (fitted k e)) (formula_of k ts))
+valued number k ts = judged limit number (option_map (λ e. Valued k (fitted k e)) (formula_of k ts))
 
-judged_at : (number k : ℕ) (ts : List Plain) (d : formulas.Formula) → formula_of k ts ≡ Some d → valued number k ts ≡ judged number (Some (Valued k (fitted k d)))
-judged_at number k ts d is = ap (λ o. judged number (option_map (λ e. Valued k (fitted k e)) o)) is
+judged_at : (number k : ℕ) (ts : List Plain) (d : formulas.Formula) → formula_of k ts ≡ Some d → valued number k ts ≡ judged limit number (Some (Valued k (fitted k d)))
+judged_at number k ts d is = ap (λ o. judged limit number (option_map (λ e. Valued k (fitted k e)) o)) is
 
 pub value_none : (number k : ℕ) (ts : List Plain) → k ≤ 8 → ((e : formulas.Formula) → ¬ SpellsFormula k e ts) → valued number k ts ≡ Malformed number
 value_none number k ts few_k none = go (formula_of k ts) refl
   where
     go : (o : Option formulas.Formula) → formula_of k ts ≡ o → valued number k ts ≡ Malformed number
-    go None is = ap (λ o. judged number (option_map (λ e. Valued k (fitted k e)) o)) is
+    go None is = ap (λ o. judged limit number (option_map (λ e. Valued k (fitted k e)) o)) is
     go (Some d) is = absurd (none d (formula_spelled k d ts few_k is))
 
 pub value_within : (number k : ℕ) (ts : List Plain) (e f : formulas.Formula) → k ≤ 8 → SpellsFormula k e ts → node_count e ≤ 2048 → depth_of e ≤ 64 → f ≡ fitted k e → valued number k ts ≡ Read (Valued k f)

@@ -1,15 +1,16 @@
 -- The grammar of function text: which line may follow which, apart from how a text is read.
-use Rattle.std.specs.Prelude.{ℕ, zero, suc, ◌+◌, ◌-◌, Bool, true, false, nat_lt, ◌==◌, pos, List, [], ◌∷◌, ◌++◌, length, take, drop, Option, Some, None, if◌then◌else◌}
+use Rattle.std.specs.Prelude.{ℕ, zero, suc, ◌+◌, ◌-◌, Bool, true, false, ◌==◌, pos, List, [], ◌∷◌, ◌++◌, length, take, drop, Option, Some, None, if◌then◌else◌}
 use Rattle.std.specs.List.{sum_by}
 use Rattle.std.specs.Option.{option_map}
 use Rattle.crn_fraction.specs.Rational.{ℚ}
 use Rattle.crn_token.specs.declared.Sign.TheVariants.{AtLeast}
 use Rattle.crn_token.specs.declared.Counted.{Counted}
 use Rattle.crn_token.specs.declared.Counted.TheVariants as counted
-use Rattle.crn_token.specs.Lines.{physical_lines}
-use Rattle.crn_token.specs.Plain.{Plain, PlainLine, PlainWord, PlainNumber, PlainSign, plain_lines}
+use Rattle.crn_token.specs.Plain.{Plain, PlainLine, PlainWord, PlainNumber, PlainSign, plain_lines, line_number, end_of}
+use Rattle.crn_token.specs.Words.{rest_of, says}
 use Rattle.crn_grammar.specs.Table.{Table, Answer, answer}
 use Rattle.crn_grammar.specs.Part.{PartAnswer, part_answer}
+use Rattle.crn_grammar.specs.Limits.{above, or_else}
 use Rattle.crn_formula.specs.Formulas.{Formula, node_count, depth_of}
 use Rattle.crn_formula.specs.Pieces.{Piece}
 use Rattle.crn_formula.specs.Functions.{Kind, ByFormula, ByPieces, ByLeast, condition_count}
@@ -19,7 +20,7 @@ use Rattle.crn_function_text.specs.declared.words.Word.{Word}
 use Rattle.crn_function_text.specs.declared.words.Word.TheVariants as word
 use Rattle.crn_function_text.specs.declared.words.Given.{Given}
 use Rattle.crn_function_text.specs.declared.words.Given.TheVariants as given
-use Rattle.crn_function_text.specs.Words.{first_word, rest_of, says, given_of}
+use Rattle.crn_function_text.specs.Words.{first_word, given_of}
 use Rattle.crn_function_text.specs.Spelled.{formula_of}
 use Rattle.crn_function_text.specs.Columns.{kept_columns}
 
@@ -118,15 +119,6 @@ whole (InForms k forms) = Some (record { variables = k; kind = ByLeast forms })
 
 -- ---- limits, which do not belong to the grammar
 
--- the count, where it is above the greatest that is allowed
-abbrev pub above : ℕ → Counted → ℕ → Option (Counted × ℕ)
-above greatest what count = if nat_lt greatest count then Some (what, count) else None
-
--- the first that is passed
-abbrev pub or_else : {W : Type 0} → Option W → Option W → Option W
-or_else (Some what) other = Some what
-or_else None other = other
-
 -- the limit that the last line passed
 abbrev pub limit : Place → Option (Counted × ℕ)
 limit Start = None
@@ -143,14 +135,7 @@ limit (InForms k forms) = above 32 counted.Forms (length forms)
 abbrev pub function_table : Table Place PlainLine PlainFunction (Counted × ℕ)
 function_table = record { start = Start; next = next; whole = whole; limit = limit }
 
-abbrev pub line_number : PlainLine → ℕ
-line_number line = line.number
-
 -- ---- texts
-
--- the number of a line past the last
-abbrev pub end_of : List ℕ → ℕ
-end_of bytes = length (physical_lines bytes) + 1
 
 -- the answer to a text
 abbrev pub function_answer : List ℕ → Answer PlainFunction (Counted × ℕ)

@@ -1,7 +1,7 @@
 -- The words that lines of function text begin with.
 use Rattle.std.specs.Prelude.{ℕ, List, [], ◌∷◌, Option, Some, None, if◌then◌else◌, codes}
 use Rattle.std.specs.Str.{bytes_eq}
-use Rattle.crn_token.specs.Plain.{Plain, PlainLine, PlainWord, PlainNumber, PlainSign}
+use Rattle.crn_token.specs.Plain.{Plain, PlainWord, PlainNumber, PlainSign}
 use Rattle.crn_function_text.specs.declared.words.Word.{Word}
 use Rattle.crn_function_text.specs.declared.words.Word.TheVariants as word
 use Rattle.crn_function_text.specs.declared.words.Given.{Given}
@@ -24,15 +24,6 @@ first_word [] = word.Other
 first_word (PlainWord letters ∷ tokens) = word_of letters
 first_word (PlainNumber n ∷ tokens) = word.Other
 first_word (PlainSign sign ∷ tokens) = word.Other
-
--- the tokens after the first
-abbrev pub rest_of : {T : Type 0} → List T → List T
-rest_of [] = []
-rest_of (token ∷ tokens) = tokens
-
--- what a line says; a bad line says nothing
-abbrev pub says : PlainLine → List Plain
-says line = if line.bad then [] else line.tokens
 
 -- how a function is given, by the second word of its first line
 abbrev pub given_of : List ℕ → Option Given

@@ -3,22 +3,24 @@
 
 ghost use Rattle.std.specs.Prelude.{◌≡◌, ◌≤◌, List, drop, vec_len, IfOk};
 ghost use Rattle.crn_token.specs.Lines.{AreLinesOf};
-ghost use Rattle.crn_token.specs.Plain.{PlainLine, plain_lines};
+ghost use Rattle.crn_token.specs.Plain.{PlainLine, plain_lines, line_number, end_of};
 ghost use Rattle.crn_grammar.specs.Table.{IsText, PassesNone, IsAnswer};
 ghost use Rattle.crn_grammar.specs.Table as table;
-ghost use Rattle.crn_grammar.specs.Part.{part_end};
+ghost use Rattle.crn_grammar.specs.Part.{IsPart, IsPartAnswer, Ends, part_end};
+ghost use Rattle.crn_grammar.specs.Reading.{Gives, GivesPart, IsRight, IsRightPart};
 ghost use Rattle.crn_formula.specs.Domains.{domain_for};
 ghost use Rattle.crn_formula.specs.Views.{kind_of};
-ghost use Rattle.crn_function_text.specs.Grammar.{PlainFunction, function_table, line_number, end_of, function_part, function_answer};
-ghost use Rattle.crn_function_text.specs.Reading.{shown, function_of, Gives, GivesPart, IsRight, IsKept};
+ghost use Rattle.crn_function_text.specs.Grammar.{PlainFunction, function_table, goes_on, function_part, function_answer};
+ghost use Rattle.crn_function_text.specs.Reading.{shown, function_of, IsKept};
 
 pub use crn_form_text::read_plain_form;
 use crn_formula::Function;
-use crn_token::{Counted, Lines, token_lines};
+use crn_grammar::TextError;
+use crn_token::words::tokens_of;
+use crn_token::{Lines, token_lines};
 use place::Place;
-use std::alloc::{AllocError, AllocFailed, Global};
-use thiserror::Error;
-use words::{first_word, tokens_of};
+use std::alloc::Global;
+use words::first_word;
 
 mod columns;
 pub mod laws;
@@ -28,39 +30,8 @@ mod words;
 
 pub use print::print_function;
 
-/// Why a text has no function that can be answered. Of several causes the one of the earliest line counts, and a malformed line
-/// before a limit.
-#[derive(Clone, Copy, Debug, PartialEq, Eq, Error)]
-pub enum FunctionTextError {
-    /// The first line up to which the lines begin no text, or the line past the last where the text is too short.
-    #[error("line {line} is malformed")]
-    Malformed { line: usize },
-    /// The first line that passes a limit.
-    #[error("limit {what:?} {count}")]
-    Limit { what: Counted, count: u64 },
-    #[error("out of memory")]
-    Memory,
-}
-
-impl From<AllocError> for FunctionTextError {
-    ghost use Rattle.crn_function_text.specs.declared.FunctionTextError.TheVariants.{Memory};
-
-    ghost from_gives = { λ _ e. e ≡ Memory };
-
-    fn from(_e: AllocError) -> FunctionTextError {
-        FunctionTextError::Memory
-    }
-}
-
-impl<T: Drop> From<AllocFailed<T>> for FunctionTextError {
-    ghost use Rattle.crn_function_text.specs.declared.FunctionTextError.TheVariants.{Memory};
-
-    ghost from_gives = { λ _ e. e ≡ Memory };
-
-    fn from(_e: AllocFailed<T>) -> FunctionTextError {
-        FunctionTextError::Memory
-    }
-}
+/// Why a text has no function that can be answered.
+pub type FunctionTextError = TextError;
 
 /// The function part that begins at the line with the index `from`, and the index of the first line after it: the part ends at the
 /// first line that does not begin with a word that may follow. Refusals speak of the lines from `from` on.
@@ -72,7 +43,28 @@ pub fn read_function_lines(
 ) -> Result<(Function, usize), FunctionTextError>
     requires lines { AreLinesOf bytes.now lines.now }
     requires from { from ≤ vec_len lines.now.lines }
-    ensures answer { GivesPart (plain_lines bytes.now) result (function_part bytes.now from) }
+    ensures answer { GivesPart function_of (plain_lines bytes.now) result (function_part bytes.now from) }
+    // Each answer is the right one: the function of the part, the malformed line, or the first limit that is passed.
+    ensures part { IsRightPart function_of (plain_lines bytes.now) result (IsPartAnswer function_table goes_on line_number (end_of bytes.now) (drop from (plain_lines bytes.now))) }
+    // A part that passes no limit is read.
+    ensures read { (f : PlainFunction) (rest : List PlainLine) → IsPart function_table goes_on (drop from (plain_lines bytes.now)) f rest
+        → GivesPart function_of (plain_lines bytes.now) result (Ends f rest) }
+    ensures next { IfOk result (λ r. (from ≤ r.1) × (r.1 ≤ vec_len lines.now.lines)) }
+    ensures domain { IfOk result (λ r. r.0.domain ≡ domain_for r.0.variables (kind_of r.0.kind)) }
+{
+    read_part(alloc, bytes, lines, from)
+}
+
+// The function part, line by line.
+fn read_part(
+    alloc: Global,
+    bytes: &[u8],
+    lines: &Lines,
+    from: usize,
+) -> Result<(Function, usize), FunctionTextError>
+    requires lines { AreLinesOf bytes.now lines.now }
+    requires from { from ≤ vec_len lines.now.lines }
+    ensures answer { GivesPart function_of (plain_lines bytes.now) result (function_part bytes.now from) }
     ensures next { IfOk result (λ r. (from ≤ r.1) × (r.1 ≤ vec_len lines.now.lines)) }
     ensures domain { IfOk result (λ r. r.0.domain ≡ domain_for r.0.variables (kind_of r.0.kind)) }
 {
@@ -98,7 +90,7 @@ fn part_up_to(
     index: usize,
 ) -> Result<(Function, usize), FunctionTextError>
     requires { IsKept (shown place) }
-    ensures answer { (lines : List PlainLine) → GivesPart lines result (part_end function_table number (shown place) (drop index lines)) }
+    ensures answer { (lines : List PlainLine) → GivesPart function_of lines result (part_end function_table number (shown place) (drop index lines)) }
     ensures next { IfOk result (λ r. r.1 ≡ index) }
     ensures domain { IfOk result (λ r. r.0.domain ≡ domain_for r.0.variables (kind_of r.0.kind)) }
 {

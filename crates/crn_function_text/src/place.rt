@@ -4,24 +4,26 @@ ghost use Rattle.std.specs.Prelude.{ℕ, Some, ◌≡◌, ◌+◌, ◌≤◌, �
 ghost use Rattle.std.specs.List.{sum_by};
 ghost use Rattle.std.specs.Option.{option_map, option_map_or};
 ghost use Rattle.crn_token.specs.Plain.{plain_token};
+ghost use Rattle.crn_token.specs.Words.{rest_of};
 ghost use Rattle.crn_grammar.specs.Table as table;
+ghost use Rattle.crn_grammar.specs.Reading.{judged, Gives};
 ghost use Rattle.crn_formula.specs.Functions.{condition_count};
 ghost use Rattle.crn_formula.specs.Domains.{domain_for};
 ghost use Rattle.crn_formula.specs.Views.{kind_of, pieces_of, piece_of};
 ghost use Rattle.crn_form_text.specs.Built.{fitted};
 ghost use Rattle.crn_form_text.specs.Reading.{form_of};
-ghost use Rattle.crn_function_text.specs.Words.{rest_of};
 ghost use Rattle.crn_function_text.specs.Spelled.{formula_of};
 ghost use Rattle.crn_function_text.specs.Grammar as grammar;
 ghost use Rattle.crn_function_text.specs.Grammar.{plain_form_of};
-ghost use Rattle.crn_function_text.specs.Reading.{shown, judged, Gives, function_of, IsKept, AreKeptPieces, AreKeptForms};
+ghost use Rattle.crn_function_text.specs.Reading.{shown, function_of, IsKept, AreKeptPieces, AreKeptForms};
 
 use crate::FunctionTextError;
 use crate::columns::function_of_pieces;
-use crate::words::{Given, Word, given_of, letters, rest_of};
+use crate::words::{Given, Word, given_of};
 use crn_form_text::{FormulaText, read_form, read_formula, read_plain_form};
 use crn_formula::{Formula, Function, FunctionKind, Piece};
 use crn_linear::Form;
+use crn_token::words::{letters, rest_of};
 use crn_token::{Counted, Line, Sign, Token};
 use std::alloc::Global;
 
@@ -38,7 +40,7 @@ pub enum Place {
 
 // `formula`, `pieces` or `direct`.
 fn header(bytes: &[u8], line: usize, rest: &[Token]) -> Result<Place, FunctionTextError>
-    ensures { Gives shown result (judged line (grammar.header (map (plain_token bytes.now) rest.now))) }
+    ensures { Gives shown result (judged grammar.limit line (grammar.header (map (plain_token bytes.now) rest.now))) }
 {
     match rest {
         [Token::Word(span)] => match given_of(letters(bytes, *span)) {
@@ -51,7 +53,7 @@ fn header(bytes: &[u8], line: usize, rest: &[Token]) -> Result<Place, FunctionTe
 
 // The number of variables.
 fn size(bytes: &[u8], line: usize, given: Given, rest: &[Token]) -> Result<Place, FunctionTextError>
-    ensures { Gives shown result (judged line (grammar.size given (map (plain_token bytes.now) rest.now))) }
+    ensures { Gives shown result (judged grammar.limit line (grammar.size given (map (plain_token bytes.now) rest.now))) }
 {
     match rest {
         [Token::Number(variables, _)] if *variables > 0 => {
@@ -77,7 +79,7 @@ fn value(
 ) -> Result<Place, FunctionTextError>
     requires some { 1 ≤ variables }
     requires few { variables ≤ 8 }
-    ensures { Gives shown result (judged line (option_map (λ e. grammar.Valued variables (fitted variables e)) (formula_of variables (map (plain_token bytes.now) rest.now)))) }
+    ensures { Gives shown result (judged grammar.limit line (option_map (λ e. grammar.Valued variables (fitted variables e)) (formula_of variables (map (plain_token bytes.now) rest.now)))) }
 {
     match read_formula(alloc, bytes, rest, variables)? {
         Some(FormulaText::Within(formula)) => Ok(Place::Valued(variables, formula)),
@@ -103,7 +105,7 @@ fn first_piece(
 ) -> Result<Place, FunctionTextError>
     requires some { 1 ≤ variables }
     requires few { variables ≤ 8 }
-    ensures { Gives shown result (judged line (option_map (λ f. grammar.InPieces variables [] (grammar.new_piece f)) (form_of variables (map (plain_token bytes.now) rest.now)))) }
+    ensures { Gives shown result (judged grammar.limit line (option_map (λ f. grammar.InPieces variables [] (grammar.new_piece f)) (form_of variables (map (plain_token bytes.now) rest.now)))) }
 {
     match read_form(bytes, rest, variables) {
         Some(form) => Ok(Place::InPieces(variables, Vec::new(alloc), new_piece(alloc, form))),
@@ -134,7 +136,7 @@ fn next_piece(
     requires some { 1 ≤ variables }
     requires few { variables ≤ 8 }
     requires kept { AreKeptPieces variables (pieces_of done.items ++ piece_of last ∷ []) }
-    ensures { Gives shown result (judged line (option_map (λ f. grammar.InPieces variables (pieces_of done.items ++ piece_of last ∷ []) (grammar.new_piece f)) (form_of variables (map (plain_token bytes.now) rest.now)))) }
+    ensures { Gives shown result (judged grammar.limit line (option_map (λ f. grammar.InPieces variables (pieces_of done.items ++ piece_of last ∷ []) (grammar.new_piece f)) (form_of variables (map (plain_token bytes.now) rest.now)))) }
 {
     let Some(form) = read_form(bytes, rest, variables) else {
         return Err(FunctionTextError::Malformed { line });
@@ -189,7 +191,7 @@ fn condition(
     requires some { 1 ≤ variables }
     requires few { variables ≤ 8 }
     requires kept { AreKeptPieces variables (pieces_of done.items ++ piece_of last ∷ []) }
-    ensures { Gives shown result (judged line (option_map (λ c. grammar.InPieces variables (pieces_of done.items) (grammar.with_condition (piece_of last) c)) (grammar.condition_of variables (map (plain_token bytes.now) rest.now)))) }
+    ensures { Gives shown result (judged grammar.limit line (option_map (λ c. grammar.InPieces variables (pieces_of done.items) (grammar.with_condition (piece_of last) c)) (grammar.condition_of variables (map (plain_token bytes.now) rest.now)))) }
 {
     let Some(condition) = read_condition(bytes, variables, rest) else {
         return Err(FunctionTextError::Malformed { line });
@@ -244,7 +246,7 @@ fn first_form(
 ) -> Result<Place, FunctionTextError>
     requires some { 1 ≤ variables }
     requires few { variables ≤ 8 }
-    ensures { Gives shown result (judged line.now.number (option_map (λ f. grammar.InForms variables (f ∷ [])) (plain_form_of variables (map (plain_token bytes.now) (rest_of line.now.tokens.items))))) }
+    ensures { Gives shown result (judged grammar.limit line.now.number (option_map (λ f. grammar.InForms variables (f ∷ [])) (plain_form_of variables (map (plain_token bytes.now) (rest_of line.now.tokens.items))))) }
 {
     let Some(form) = read_direct_form(bytes, line, variables) else {
         return Err(FunctionTextError::Malformed { line: line.number });
@@ -264,7 +266,7 @@ fn next_form(
     requires some { 1 ≤ variables }
     requires few { variables ≤ 8 }
     requires kept { AreKeptForms variables forms.items }
-    ensures { Gives shown result (judged line.now.number (option_map (λ f. grammar.InForms variables (forms.items ++ f ∷ [])) (plain_form_of variables (map (plain_token bytes.now) (rest_of line.now.tokens.items))))) }
+    ensures { Gives shown result (judged grammar.limit line.now.number (option_map (λ f. grammar.InForms variables (forms.items ++ f ∷ [])) (plain_form_of variables (map (plain_token bytes.now) (rest_of line.now.tokens.items))))) }
 {
     let Some(form) = read_direct_form(bytes, line, variables) else {
         return Err(FunctionTextError::Malformed { line: line.number });
@@ -306,7 +308,7 @@ impl Place {
         word: Word,
     ) -> Result<Place, FunctionTextError>
         requires { IsKept (shown self) }
-        ensures { Gives shown result (judged line.now.number (grammar.follow (shown self) word (map (plain_token bytes.now) (rest_of line.now.tokens.items)))) }
+        ensures { Gives shown result (judged grammar.limit line.now.number (grammar.follow (shown self) word (map (plain_token bytes.now) (rest_of line.now.tokens.items)))) }
     {
         let number = line.number;
         let rest = rest_of(&line.tokens);

@@ -1,9 +1,11 @@
-ghost use Rattle.std.specs.Prelude.{◌≡◌, map, slice_range, [], if◌then◌else◌};
-ghost use Rattle.std.specs.Str.{bytes_eq};
-ghost use Rattle.crn_token.specs.Plain.{plain_token};
-ghost use Rattle.crn_function_text.specs.Words.{word_of, first_word, rest_of, given_of};
+//! The words of function text.
 
-use crn_token::{Line, Span, Token};
+ghost use Rattle.std.specs.Prelude.{◌≡◌, map};
+ghost use Rattle.crn_token.specs.Plain.{plain_token};
+ghost use Rattle.crn_function_text.specs.Words.{word_of, first_word, given_of};
+
+use crn_token::Token;
+use crn_token::words::{letters, spell};
 
 /// How a function is given, by the second word of its first line.
 #[derive(Clone, Copy, Debug, PartialEq, Eq)]
@@ -26,13 +28,6 @@ pub enum Word {
     Other,
 }
 
-// Whether these are the letters of a word.
-fn spell(letters: &[u8], word: &[u8]) -> bool
-    ensures { result ≡ bytes_eq letters.now word.now }
-{
-    letters == word
-}
-
 // The word that these letters are.
 fn word_of(letters: &[u8]) -> Word
     ensures { result ≡ word_of letters.now }
@@ -52,15 +47,6 @@ fn word_of(letters: &[u8]) -> Word
     } else {
         Word::Other
     }
-}
-
-/// The bytes of a span, as far as there are any.
-pub fn letters(bytes: &[u8], span: Span) -> &[u8]
-    ensures { result.now ≡ slice_range bytes.now span.start span.end }
-{
-    let end = span.end.min(bytes.len());
-    let start = span.start.min(end);
-    &bytes[start..end]
 }
 
 /// The word of the first token.
@@ -85,22 +71,5 @@ pub fn given_of(letters: &[u8]) -> Option<Given>
         Some(Given::Direct)
     } else {
         None
-    }
-}
-
-/// The tokens of a line, of which a bad line has none.
-pub fn tokens_of(line: &Line) -> &[Token]
-    ensures { result.now ≡ (if line.now.bad then [] else line.now.tokens.items) }
-{
-    if line.bad { &[] } else { &line.tokens }
-}
-
-/// The tokens after the first.
-pub fn rest_of(tokens: &[Token]) -> &[Token]
-    ensures { result.now ≡ rest_of tokens.now }
-{
-    match tokens {
-        [_, rest @ ..] => rest,
-        [] => &[],
     }
 }

@@ -3,13 +3,11 @@ use Rattle.std.proofs.Common.{◌≡◌, ℕ, ◌+◌, ◌≤◌, inl, inr, List
 use Rattle.std.proofs.lemmas.Bool.{cases_lt}
 use Rattle.std.proofs.lemmas.List.{take-append-le}
 use Rattle.std.specs.Option.{option_and_then, option_map_or}
+use Rattle.crn_token.proofs.Options.{some_alike}
 use Rattle.crn_grammar.specs.Table.{Table, Answer, IsFirstWrong, IsTooShort, IsFirstPast, after, IsText, Begins, PassesNone, Read, Malformed, Limited, IsAnswer, CanEnd, answer}
 
 module _ {S L F W : Type 0} (table : Table S L F W) where
-  some_alike : (a b : S) → Some a ≡ Some b → a ≡ b
-  some_alike a b e = cc
-
-  none_some : (a : S) → None ≡ Some a → ⊥
+  pub none_some : (a : S) → None ≡ Some a → ⊥
   none_some a e = cc
 
   after-append : (s : S) (xs ys : List L) → after table s (xs ++ ys) ≡ option_and_then (λ t. after table t ys) (after table s xs)
@@ -25,28 +23,28 @@ module _ {S L F W : Type 0} (table : Table S L F W) where
   after_then s t xs ys there = after-append s xs ys ∙ ap (option_and_then (λ u. after table u ys)) there
 
   -- one line more
-  after_more : (lines : List L) (line : L) (s : S) → after table table.start lines ≡ Some s → after table table.start (lines ++ line ∷ []) ≡ table.next s line
+  pub after_more : (lines : List L) (line : L) (s : S) → after table table.start lines ≡ Some s → after table table.start (lines ++ line ∷ []) ≡ table.next s line
   after_more lines line s here = after-append table.start lines (line ∷ []) ∙ rw here (last (table.next s line))
     where
       last : (o : Option S) → option_and_then (λ t. Some t) o ≡ o
       last None = refl
       last (Some t) = refl
 
-  begins_here : CanEnd table → (lines : List L) (s : S) → after table table.start lines ≡ Some s → Begins table lines
+  pub begins_here : CanEnd table → (lines : List L) (s : S) → after table table.start lines ≡ Some s → Begins table lines
   begins_here can_end lines s here =
       let end = can_end lines s here in
       (end.0, end.2, (end.1, after-append table.start lines end.0 ∙ rw here end.3, end.4))
 
   -- where a line is not allowed, no text begins so
-  wrong_here : (lines : List L) (line : L) (s : S) → after table table.start lines ≡ Some s → table.next s line ≡ None → Begins table (lines ++ line ∷ []) → ⊥
+  pub wrong_here : (lines : List L) (line : L) (s : S) → after table table.start lines ≡ Some s → table.next s line ≡ None → Begins table (lines ++ line ∷ []) → ⊥
   wrong_here lines line s here stuck (more, f, (t, there, whole)) =
       let none : after table table.start ((lines ++ line ∷ []) ++ more) ≡ None = after-append table.start (lines ++ line ∷ []) more ∙ rw (after_more lines line s here, stuck) refl in
       let wrong = sym none ∙ there in cc
 
-  none_past : PassesNone table []
+  pub none_past : PassesNone table []
   none_past n s some within here = absurd (omega arith)
 
-  none_past_more : (lines : List L) (line : L) (t : S) → PassesNone table lines → after table table.start (lines ++ line ∷ []) ≡ Some t → table.limit t ≡ None → PassesNone table (lines ++ line ∷ [])
+  pub none_past_more : (lines : List L) (line : L) (t : S) → PassesNone table lines → after table table.start (lines ++ line ∷ []) ≡ Some t → table.limit t ≡ None → PassesNone table (lines ++ line ∷ [])
   none_past_more lines line t before there low n s some within here =
       ⊎_elim
       (λ less. let less' : n ≤ length lines = omega arith in before n s some less' (sym (ap (after table table.start) (take-append-le n lines (line ∷ []) less')) ∙ here))
@@ -148,14 +146,14 @@ module _ {S L F W : Type 0} (table : Table S L F W) where
   read_is number end lines f (t, there, whole) low = answer_at_end number end lines t low there ∙ rw whole refl
 
   -- what leads on has led somewhere before
-  leads : (lines more : List L) (t : S) → after table table.start (lines ++ more) ≡ Some t → (s : S) × (after table table.start lines ≡ Some s) × (after table s more ≡ Some t)
+  pub leads : (lines more : List L) (t : S) → after table table.start (lines ++ more) ≡ Some t → (s : S) × (after table table.start lines ≡ Some s) × (after table s more ≡ Some t)
   leads lines more t there = go (after table table.start lines) refl
     where
       go : (o : Option S) → after table table.start lines ≡ o → (s : S) × (after table table.start lines ≡ Some s) × (after table s more ≡ Some t)
       go None e = absurd (none_some t (sym (after-append table.start lines more ∙ ap (option_and_then (λ u. after table u more)) e) ∙ there))
       go (Some s) e = (s, e, sym (after-append table.start lines more ∙ ap (option_and_then (λ u. after table u more)) e) ∙ there)
 
-  begun : (lines : List L) → Begins table lines → (s : S) × (after table table.start lines ≡ Some s)
+  pub begun : (lines : List L) → Begins table lines → (s : S) × (after table table.start lines ≡ Some s)
   begun lines (more, f, (t, there, whole)) = let before = leads lines more t there in (before.0, before.1)
 
   -- the first line after which no text goes on is the malformed line

@@ -1,2 +1,5 @@
 pub mod Table
 pub mod Part
+pub mod Limits
+pub mod Reading
+pub mod Followed

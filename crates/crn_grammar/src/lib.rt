@@ -1,9 +1,13 @@
 //! Grammars of lines, as tables of what may follow a line, and the right answer to a text.
 #![tactic(auto)]
 
-ghost use Rattle.std.specs.Prelude.{ℕ, Bool, List, Option, Some, IsTrue, ◌≡◌};
+mod error;
+
+ghost use Rattle.std.specs.Prelude.{ℕ, Bool, List, Option, Some, IsTrue, ◌≡◌, ◌↔◌};
 ghost use Rattle.crn_grammar.specs.Table.{Table, CanEnd, IsText, PassesNone, IsAnswer, Answer, Read, after, answer};
-ghost use Rattle.crn_grammar.specs.Part.{Either, Part, part_answer, joined_table, go_on};
+ghost use Rattle.crn_grammar.specs.Part.{Either, Part, PartAnswer, Ends, IsPart, IsPartAnswer, part_answer, joined_table, go_on};
+
+pub use error::TextError;
 
 /// Where each place that lines lead to can still end, the answer line by line is the right one: the value of a text, the first
 /// line after which no text can go on, or the first line that passes a limit.
@@ -30,6 +34,25 @@ pub fn places_can_end<S, L, F, W>()
         → ((s : S) (line : L) (t : S) → IsTrue (is_fine s) → table.next s line ≡ Some t → IsTrue (is_fine t))
         → ((s : S) → IsTrue (is_fine s) → (more : List L) × (t : S) × (f : F) × (after table s more ≡ Some t) × (table.whole t ≡ Some f))
         → CanEnd table }
+{}
+
+/// The answer to a part line by line is its value and the rest exactly where the lines are a part with this value, and then the rest.
+pub fn parts_are_read<S, L, F, W>()
+    ensures { (table : Table S L F W) (goes_on : S → L → Bool) (number : L → ℕ) (end : ℕ) (lines : List L) (f : F) (rest : List L)
+        → (part_answer table goes_on number end table.start lines ≡ Ends f rest) ↔ IsPart table goes_on lines f rest }
+{}
+
+/// Where each place that lines lead to can still end, the answer to a part line by line is the right one: its value and the rest, the
+/// first line that goes on and is not allowed or before which the part must not end, or the first line that passes a limit.
+pub fn part_answer_is_right<S, L, F, W>()
+    ensures { (table : Table S L F W) (goes_on : S → L → Bool) (number : L → ℕ) (end : ℕ) (lines : List L) → CanEnd table
+        → IsPartAnswer table goes_on number end lines (part_answer table goes_on number end table.start lines) }
+{}
+
+/// There is one right answer to a part.
+pub fn right_part_is_one<S, L, F, W>()
+    ensures { (table : Table S L F W) (goes_on : S → L → Bool) (number : L → ℕ) (end : ℕ) (lines : List L) (a : PartAnswer L F W) → CanEnd table
+        → IsPartAnswer table goes_on number end lines a → part_answer table goes_on number end table.start lines ≡ a }
 {}
 
 /// The answer to a text that begins with a part is the answer to the part, and then the answer to what follows it.

@@ -1,21 +1,19 @@
 -- Flows that stand one after another, and the segment that they are.
-use Rattle.std.proofs.Common.{◌≡◌, ℕ, zero, suc, ◌-◌, ◌<◌, ◌≤◌, ◌++◌, List, [], ◌∷◌, length, drop, map, Option, Some, None, refl, sym, ◌∙◌, ap, arith, append_assoc, append-nil, lt-ltb, cond, true, false, Bool}
+use Rattle.std.proofs.Common.{◌≡◌, ℕ, zero, suc, ◌-◌, ◌<◌, ◌≤◌, ◌++◌, List, [], ◌∷◌, length, drop, map, Option, Some, None, refl, sym, ◌∙◌, ap, arith, append_assoc, append-nil, cond, true, false, Bool}
 use Rattle.std.proofs.lemmas.List.{drop-map, length-map}
-use Rattle.std.proofs.lemmas.Bool.{le-ltb}
 use Rattle.std.specs.Option.{option_map, option_and_then, option_map_or}
 use Rattle.crn_grammar.specs.Table.{Answer, Read, Limited}
+use Rattle.crn_grammar.proofs.LimitLaws.{not_above, is_above}
 use Rattle.crn_token.specs.declared.Counted.{Counted}
 use Rattle.crn_token.specs.declared.Counted.TheVariants as counted
 use Rattle.crn_net.specs.declared.Flow.{Flow}
 use Rattle.crn_token.specs.declared.Token.{Token}
 use Rattle.crn_token.specs.Plain.{Plain, plain_token}
 use Rattle.crn_segments.specs.Flows.{IsSegment}
-use Rattle.crn_job.specs.Grammar.{Tail, reaction_at, flow_to, flow_at, amounts_of, numbers_of, with_input, with_segments, segments_with, segments_limit, tail_follow, tail_limit, flows_of, is_segment, segment_of}
+use Rattle.crn_job.specs.Grammar.{Tail, most_segments, reaction_at, flow_to, flow_at, amounts_of, numbers_of, with_input, with_segments, segments_with, segments_limit, tail_follow, tail_limit, flows_of, is_segment, segment_of}
 use Rattle.crn_job.specs.declared.words.Word.TheVariants as word
-use Rattle.crn_job.specs.declared.JobError.{JobError}
-use Rattle.crn_job.specs.declared.JobError.TheVariants as error
-use Rattle.crn_job.specs.Followed.{answer_map}
-use Rattle.crn_job.specs.Reading.{judged, Refuses}
+use Rattle.crn_grammar.specs.Followed.{answer_map}
+use Rattle.crn_grammar.specs.Reading.{judged}
 use Rattle.crn_job.proofs.Segments.{segment_is, is_segment_of}
 
 -- what follows the first flow
@@ -71,13 +69,13 @@ pub no_flows : (ts : List Plain) → None ≡ flows_of (length ts) ts → None �
 no_flows ts none = ap (option_and_then if_segment) none
 
 -- a segment or an input more passes no limit
-pub few_segments : (us : List (List Flow)) → length us ≤ 10000 → segments_limit us ≡ None
-few_segments us few = ap (λ b. cond b (Some (counted.Segments, length us)) None) (le-ltb 10000 (length us) few)
+pub few_segments : (us : List (List Flow)) → length us ≤ most_segments → segments_limit us ≡ None
+few_segments us few = not_above most_segments counted.Segments (length us) few
 
-pub many_segments : (us : List (List Flow)) → 10000 < length us → segments_limit us ≡ Some (counted.Segments, length us)
-many_segments us many = ap (λ b. cond b (Some (counted.Segments, length us)) None) (lt-ltb 10000 (length us) many)
+pub many_segments : (us : List (List Flow)) → most_segments < length us → segments_limit us ≡ Some (counted.Segments, length us)
+many_segments us many = is_above most_segments counted.Segments (length us) many
 
-pub judged_few : (number : ℕ) (t : Tail) → length t.segments ≤ 10000 → judged tail_limit number (Some t) ≡ Read t
+pub judged_few : (number : ℕ) (t : Tail) → length t.segments ≤ most_segments → judged tail_limit number (Some t) ≡ Read t
 judged_few number t few = ap (λ l. option_map_or (λ what. Limited what) l (Read t)) (few_segments t.segments few)
 
 -- the answer to a segment line is that to its segments
@@ -89,12 +87,6 @@ judged_segments limit number f (Some us) same = ap (λ l. option_map_or (λ what
     go : (l : Option (Counted × ℕ)) → option_map_or (λ what. Limited what) l (Read (f us)) ≡ answer_map f (option_map_or (λ what. Limited what) l (Read us))
     go None = refl
     go (Some what) = refl
-
--- a refused segment line is refused with what it belongs to
-pub refused_with : {V G : Type 0} (value : V → G) (e : JobError) (a : Answer V (Counted × ℕ)) → Refuses e a → Refuses e (answer_map value a)
-refused_with value (error.Malformed n) a is = ap (answer_map value) is
-refused_with value (error.Limit what count) a is = ap (answer_map value) is
-refused_with value error.Memory a is = tt
 
 -- an input line while one is to come, and a segment line after the last
 pub follow_input : (t : Tail) (left : ℕ) (ts : List Plain) → 0 < left → tail_follow t left word.Input ts ≡ option_map (λ qs. with_input t (left - 1) qs) (numbers_of (amounts_of t.rails) ts)

@@ -1,30 +1,27 @@
 -- The answer to a job by the answers to its parts, and that each place of a job can end.
-use Rattle.std.proofs.Common.{◌≡◌, ℕ, zero, suc, false, true, List, [], ◌∷◌, drop, Option, Some, None, Err, refl, sym, ◌∙◌, ap, ⊎_elim}
+use Rattle.std.proofs.Common.{◌≡◌, ℕ, zero, suc, false, true, List, [], ◌∷◌, drop, Option, Some, None, refl, sym, ◌∙◌, ap, subst, ⊎_elim}
 use Rattle.std.proofs.lemmas.Bool.{cases_Bool}
 use Rattle.std.specs.Prelude.{pos, codes}
 use Rattle.std.specs.Option.{option_and_then}
-use Rattle.crn_token.specs.declared.Counted.{Counted}
-use Rattle.crn_token.specs.Plain.{Plain, PlainLine, PlainWord, PlainNumber, plain_lines}
-use Rattle.crn_grammar.specs.Table.{Malformed, Limited, after, CanEnd}
-use Rattle.crn_grammar.specs.Part.{Ends, Wrong, Past}
+use Rattle.crn_token.specs.Plain.{Plain, PlainLine, PlainWord, PlainNumber, plain_lines, line_number, end_of}
+use Rattle.crn_token.specs.Words.{says, rest_of}
+use Rattle.crn_grammar.specs.declared.error.TextError.{TextError}
+use Rattle.crn_grammar.specs.Table.{after, CanEnd}
+use Rattle.crn_grammar.specs.Part.{Ends, Leaves}
+use Rattle.crn_grammar.specs.Reading.{Refuses, RefusesPart}
 use Rattle.crn_grammar.proofs.TableLaws.{can_end}
 use Rattle.crn_fraction.specs.Rational.{ℚ}
 use Rattle.crn_form_text.specs.Grammar.{fraction, Whole}
-use Rattle.crn_function_text.specs.Words.{says, first_word}
-use Rattle.crn_function_text.specs.Words.{rest_of as functions_rest}
-use Rattle.crn_function_text.specs.Grammar.{PlainFunction, Place, Start, function_table, goes_on, line_number, end_of, function_part, whole}
+use Rattle.crn_function_text.specs.Words.{first_word}
+use Rattle.crn_function_text.specs.Grammar.{PlainFunction, Place, Start, function_table, goes_on, function_part, whole}
 use Rattle.crn_function_text.specs.Grammar as functions
 use Rattle.crn_function_text.proofs.GrammarLaws.{not_followed, function_can_end}
 use Rattle.crn_function_text.proofs.Steps.{never_other}
-use Rattle.crn_function_text.specs.declared.FunctionTextError.{FunctionTextError}
-use Rattle.crn_function_text.specs.declared.FunctionTextError.TheVariants as error
-use Rattle.crn_function_text.specs.Reading.{GivesPart}
-use Rattle.crn_job.specs.Reading.{Refuses, refused}
 use Rattle.crn_net.specs.declared.Rails.{Rails}
 use Rattle.crn_net.specs.declared.Rails.TheVariants as rails
-use Rattle.crn_job.specs.Followed.{answer_map}
+use Rattle.crn_grammar.specs.Followed.{answer_map}
 use Rattle.crn_job.specs.Grammar.{Tail, TailValue, tail_start, tail_next, tail_whole, tail_table, job_tail, tail_answer, rails_of, job_with, job_table, job_answer, with_input, value_at}
-use Rattle.crn_job.proofs.FollowedLaws.{followed_on, followed_is, followed_can_end, Stops, Leaves}
+use Rattle.crn_grammar.proofs.FollowedLaws.{followed_on, followed_is, followed_refused, followed_can_end, Stops}
 
 -- ---- the answer
 
@@ -35,16 +32,8 @@ job_is bytes = followed_is function_table goes_on job_tail job_with line_number 
 pub job_read : (bytes : List ℕ) (f : PlainFunction) (n : ℕ) → function_part bytes 0 ≡ Ends f (drop n (plain_lines bytes)) → job_answer bytes ≡ answer_map (job_with f) (tail_answer (rails_of f.kind) f.variables bytes n)
 job_read bytes f n is = job_is bytes ∙ ap (followed_on function_table goes_on job_tail job_with line_number (end_of bytes)) is
 
-pub job_wrong : (bytes : List ℕ) (n : ℕ) → function_part bytes 0 ≡ Wrong n → job_answer bytes ≡ Malformed n
-job_wrong bytes n is = job_is bytes ∙ ap (followed_on function_table goes_on job_tail job_with line_number (end_of bytes)) is
-
-pub job_past : (bytes : List ℕ) (what : Counted × ℕ) → function_part bytes 0 ≡ Past what → job_answer bytes ≡ Limited what
-job_past bytes what is = job_is bytes ∙ ap (followed_on function_table goes_on job_tail job_with line_number (end_of bytes)) is
-
-pub job_refused : (bytes : List ℕ) (e : FunctionTextError) → GivesPart (plain_lines bytes) (Err e) (function_part bytes 0) → Refuses (refused e) (job_answer bytes)
-job_refused bytes (error.Malformed n) is = job_wrong bytes n is
-job_refused bytes (error.Limit what count) is = job_past bytes (what, count) is
-job_refused bytes error.Memory is = tt
+pub job_refused : (bytes : List ℕ) (e : TextError) → RefusesPart e (function_part bytes 0) → Refuses e (job_answer bytes)
+job_refused bytes e is = subst (Refuses e) (sym (job_is bytes)) (followed_refused function_table goes_on job_tail job_with line_number (end_of bytes) e (function_part bytes 0) is)
 
 -- ---- each place can end
 -- their amounts
@@ -68,7 +57,7 @@ zeros_lead n t rails.Direct some is = rw (is, some) refl
 -- lines of the function part are lines of the job
 goes_where_allowed : (s : Place) (line : PlainLine) (t : Place) → functions.next s line ≡ Some t → goes_on s line ≡ true
 goes_where_allowed s line t is =
-    ⊎_elim (λ going. going) (λ stop. let wrong : ◌≡◌ {A = Option Place} None (Some t) = sym (not_followed s (first_word (says line)) (functions_rest (says line)) stop) ∙ is in cc) (cases_Bool (goes_on s line))
+    ⊎_elim (λ going. going) (λ stop. let wrong : ◌≡◌ {A = Option Place} None (Some t) = sym (not_followed s (first_word (says line)) (rest_of (says line)) stop) ∙ is in cc) (cases_Bool (goes_on s line))
 
 -- each place after the function part can end: with input lines of zeros
 inputs_end : (kind : Rails) (inputs left : ℕ) (t : Tail) → t.left ≡ left → Stops (tail_table kind inputs) t

@@ -5,8 +5,6 @@ pub mod LineLaws
 pub mod TailSteps
 pub mod States
 pub mod RunSteps
-pub mod FollowedLaws
 pub mod JobLaws
 pub mod RunLaws
-pub mod FollowedKept
 pub mod KeptJobs

@@ -9,7 +9,7 @@ use Rattle.crn_form_text.specs.Grammar.{IsLongestNumber}
 use Rattle.crn_form_text.specs.Reading.{fraction_at}
 use Rattle.crn_form_text.proofs.Numbers.{number_found, IsNumberFound}
 use Rattle.crn_function_text.proofs.Spelled.{number_nonnegative}
-use Rattle.crn_net_text.proofs.Found.{some_same, then_found}
+use Rattle.crn_token.proofs.Options.{some_alike, then_found}
 use Rattle.crn_job.specs.Grammar.{numbers_of, alone, number_of}
 
 -- what follows the first number
@@ -68,5 +68,5 @@ number_of_nonnegative ts q is =
     subst (λ r. 0ℚ ≤ℚ r) (last p.0 (drop p.1 ts) rest) (found_nonnegative ts p.0 p.1 here)
   where
     last : (p : ℚ) (us : List Plain) → alone p us ≡ Some q → p ≡ q
-    last p [] e = some_same p q e
+    last p [] e = some_alike p q e
     last p (u ∷ us) e = let wrong : ◌≡◌ {A = Option ℚ} None (Some q) = e in cc

@@ -1,20 +1,16 @@
 -- The answer to a run job by the answers to its parts, and that each place of a run job can end.
-use Rattle.std.proofs.Common.{◌≡◌, ℕ, zero, suc, true, List, [], drop, Option, Some, None, Err, refl, ◌∙◌, ap}
-use Rattle.crn_token.specs.declared.Counted.{Counted}
-use Rattle.crn_token.specs.Plain.{PlainLine, plain_lines}
-use Rattle.crn_grammar.specs.Table.{Malformed, Limited, CanEnd}
-use Rattle.crn_grammar.specs.Part.{Ends, Wrong, Past}
-use Rattle.crn_function_text.specs.Grammar.{line_number, end_of}
+use Rattle.std.proofs.Common.{◌≡◌, ℕ, zero, suc, true, List, [], drop, Option, Some, None, refl, sym, ◌∙◌, ap, subst}
+use Rattle.crn_token.specs.Plain.{PlainLine, plain_lines, line_number, end_of}
+use Rattle.crn_grammar.specs.declared.error.TextError.{TextError}
+use Rattle.crn_grammar.specs.Table.{CanEnd}
+use Rattle.crn_grammar.specs.Part.{Ends}
+use Rattle.crn_grammar.specs.Reading.{Refuses, RefusesPart}
 use Rattle.crn_net.specs.Network.{Network}
-use Rattle.crn_net_text.specs.declared.NetTextError.{NetTextError}
-use Rattle.crn_net_text.specs.declared.NetTextError.TheVariants as network
 use Rattle.crn_net_text.specs.Grammar.{Place, Start, Titled, Naming, Placed, Closed, Listing, next, network_table, goes_on, network_part}
-use Rattle.crn_net_text.specs.Reading.{GivesPart}
 use Rattle.crn_net_text.proofs.Kept.{network_can_end}
-use Rattle.crn_job.specs.Followed.{answer_map}
+use Rattle.crn_grammar.specs.Followed.{answer_map}
 use Rattle.crn_job.specs.RunGrammar.{RunTail, RunValue, run_start, run_tail_table, run_tail, run_tail_answer, run_with, run_table, run_answer, state_given}
-use Rattle.crn_job.specs.Reading.{Refuses, network_refused}
-use Rattle.crn_job.proofs.FollowedLaws.{followed_on, followed_is, followed_can_end, Stops}
+use Rattle.crn_grammar.proofs.FollowedLaws.{followed_on, followed_is, followed_refused, followed_can_end, Stops}
 
 -- ---- the answer
 -- the answer to a run job, by that to its network part
@@ -24,16 +20,8 @@ run_is bytes = followed_is network_table goes_on run_tail run_with line_number (
 pub run_read : (bytes : List ℕ) (net : Network) (n : ℕ) → network_part bytes ≡ Ends net (drop n (plain_lines bytes)) → run_answer bytes ≡ answer_map (run_with net) (run_tail_answer net.species bytes n)
 run_read bytes net n is = run_is bytes ∙ ap (followed_on network_table goes_on run_tail run_with line_number (end_of bytes)) is
 
-run_wrong : (bytes : List ℕ) (n : ℕ) → network_part bytes ≡ Wrong n → run_answer bytes ≡ Malformed n
-run_wrong bytes n is = run_is bytes ∙ ap (followed_on network_table goes_on run_tail run_with line_number (end_of bytes)) is
-
-run_past : (bytes : List ℕ) (what : Counted × ℕ) → network_part bytes ≡ Past what → run_answer bytes ≡ Limited what
-run_past bytes what is = run_is bytes ∙ ap (followed_on network_table goes_on run_tail run_with line_number (end_of bytes)) is
-
-pub run_refused : (bytes : List ℕ) (e : NetTextError) → GivesPart (plain_lines bytes) (Err e) (network_part bytes) → Refuses (network_refused e) (run_answer bytes)
-run_refused bytes (network.Malformed n) is = run_wrong bytes n is
-run_refused bytes (network.Limit what count) is = run_past bytes (what, count) is
-run_refused bytes network.Memory is = tt
+pub run_refused : (bytes : List ℕ) (e : TextError) → RefusesPart e (network_part bytes) → Refuses e (run_answer bytes)
+run_refused bytes e is = subst (Refuses e) (sym (run_is bytes)) (followed_refused network_table goes_on run_tail run_with line_number (end_of bytes) e (network_part bytes) is)
 
 -- ---- each place can end
 -- lines of the network part are lines of the run job

@@ -3,27 +3,30 @@ use Rattle.std.proofs.Common.{◌≡◌, ℕ, ◌<◌, cond, List, [], ◌∷◌
 use Rattle.std.specs.Option.{option_map, option_map_or, option_and_then}
 use Rattle.crn_fraction.specs.Rational.{ℚ, 0ℚ, ◌≤ℚ◌}
 use Rattle.crn_token.specs.declared.Counted.{Counted}
+use Rattle.crn_token.specs.declared.Counted.TheVariants as counted
 use Rattle.crn_token.specs.declared.Token.{Token}
 use Rattle.crn_token.specs.declared.Line.{Line}
 use Rattle.crn_token.specs.Plain.{Plain, plain_token, plain_line}
 use Rattle.crn_grammar.specs.Table.{Answer, Read, Malformed, Limited}
-use Rattle.crn_function_text.specs.Words.{rest_of}
+use Rattle.crn_token.specs.Words.{rest_of}
 use Rattle.crn_net.specs.declared.Flow.{Flow}
 use Rattle.crn_net_text.specs.Grammar.{species_at}
-use Rattle.crn_net_text.proofs.Found.{then_found, map_found}
+use Rattle.crn_token.proofs.Options.{then_found, map_found}
 use Rattle.crn_job.specs.declared.run_tail.RunTail.{RunTail as CodeTail}
 use Rattle.crn_job.specs.declared.words.Word.{Word}
 use Rattle.crn_job.specs.declared.words.Word.TheVariants as word
 use Rattle.crn_job.specs.Words.{first_word}
-use Rattle.crn_job.specs.Grammar.{number_of, segments_with, segments_limit}
+use Rattle.crn_job.specs.Grammar.{most_segments, number_of, segments_with, segments_limit}
 use Rattle.crn_job.specs.RunGrammar.{Given, RunTail, RunValue, given, state_given, given_of, last_species, with_amount, with_segments, run_follow, run_next, run_limit}
-use Rattle.crn_job.specs.Reading.{judged, Shows, IsRunKept}
+use Rattle.crn_grammar.specs.Reading.{judged}
+use Rattle.crn_job.specs.Reading.{Shows, IsRunKept}
 use Rattle.crn_job.proofs.Numbers.{number_of_nonnegative}
 use Rattle.crn_job.proofs.Segments.{segments_are}
 use Rattle.crn_segments.specs.Steps.{AreSegments}
-use Rattle.crn_job.specs.Followed.{answer_map}
+use Rattle.crn_grammar.specs.Followed.{answer_map}
 use Rattle.crn_job.proofs.Flows.{judged_segments}
-use Rattle.crn_job.proofs.TailSteps.{not_passed}
+use Rattle.crn_grammar.proofs.LimitLaws.{not_passed}
+use Rattle.crn_grammar.proofs.Turns.{judged_read}
 use Rattle.crn_job.proofs.LineLaws.{word_is, rest_is}
 
 -- what is read of a line is what it says
@@ -97,25 +100,17 @@ kept_follow n t [] word.Amount ts kept all =
 kept_follow n t us word.Segment ts kept all =
     subst (KeptNext n) (sym (follow_segments t us ts)) (kept_map n (λ vs. with_segments t vs) (segments_with us ts) (λ vs is low. record {
       species = kept.species;
-      few = not_passed (length vs) low;
+      few = not_passed most_segments counted.Segments (length vs) low;
       not_negative = kept.not_negative;
       segments = segments_are us vs ts all is;
     }))
 kept_follow n t _ _ ts kept all = tt
 
 pub run_kept : (n number : ℕ) (t u : RunTail) (w : Word) (ts : List Plain) → IsRunKept n t → judged run_limit number (run_follow t t.segments w ts) ≡ Read u → IsRunKept n u
-run_kept n number t u w ts kept is = go (run_follow t t.segments w ts) is (kept_follow n t t.segments w ts kept kept.segments)
-  where
-    go : (o : Option RunTail) → judged run_limit number o ≡ Read u → KeptNext n o → IsRunKept n u
-    go None e next = let wrong : ◌≡◌ {A = Answer RunTail (Counted × ℕ)} (Malformed number) (Read u) = e in cc
-    go (Some v) e next = low (run_limit v) refl
-      where
-        low : (l : Option (Counted × ℕ)) → run_limit v ≡ l → IsRunKept n u
-        low None none =
-            let same : ◌≡◌ {A = Answer RunTail (Counted × ℕ)} (Read v) (Read u) = sym (ap (λ l. option_map_or (λ w. Limited w) l (Read v)) none) ∙ e in
-            let alike : v ≡ u = cc in
-            subst (IsRunKept n) alike (next none)
-        low (Some what) past = let wrong : ◌≡◌ {A = Answer RunTail (Counted × ℕ)} (Limited what) (Read u) = sym (ap (λ l. option_map_or (λ w. Limited w) l (Read v)) past) ∙ e in cc
+run_kept n number t u w ts kept is =
+    let (there, low) = judged_read run_limit number (run_follow t t.segments w ts) u is in
+    let next : KeptNext n (Some u) = subst (KeptNext n) there (kept_follow n t t.segments w ts kept kept.segments) in
+    next low
 
 -- the answer to a segment line is that to its segments
 pub judged_follow_segments : (number : ℕ) (t : RunTail) (ts : List Plain) → judged run_limit number (run_follow t t.segments word.Segment ts) ≡ answer_map (λ us. with_segments t us) (judged segments_limit number (segments_with t.segments ts))

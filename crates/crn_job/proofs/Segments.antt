@@ -3,6 +3,7 @@ use Rattle.std.proofs.Common.{◌≡◌, ℕ, Bool, true, false, cond, ◌&&◌,
 use Rattle.std.specs.Prelude.{nat_lt}
 use Rattle.crn_fraction.specs.Rational.{ℚ, 0ℚ, ◌<ℚ◌}
 use Rattle.crn_fraction.proofs.Linear.{not_<ℚ}
+use Rattle.crn_token.proofs.Printed.{and_first, and_second}
 use Rattle.crn_net.specs.declared.Flow.{Flow}
 use Rattle.crn_segments.specs.Flows.{AreAscending, IsSegment}
 use Rattle.crn_segments.specs.Signs.{is_positive_ℚ}
@@ -10,16 +11,8 @@ use Rattle.crn_segments.proofs.SignLaws.{is_positive_ℚ_cases}
 use Rattle.crn_segments.specs.Steps.{AreSegments}
 use Rattle.crn_segments.proofs.Runs.{segments_append}
 use Rattle.crn_token.specs.Plain.{Plain}
-use Rattle.crn_net_text.proofs.Found.{some_same, then_found, map_found, if_found}
+use Rattle.crn_token.proofs.Options.{some_alike, then_found, map_found, if_found}
 use Rattle.crn_job.specs.Grammar.{ascend, is_segment, flows_of, segment_of, segments_with}
-
-and_left : (a b : Bool) → a && b ≡ true → a ≡ true
-and_left true b is = refl
-and_left false b is = is
-
-and_right : (a b : Bool) → a && b ≡ true → b ≡ true
-and_right true b is = is
-and_right false b is = let wrong : false ≡ true = is in cc
 
 positive : (a : ℚ) → is_positive_ℚ a ≡ true → 0ℚ <ℚ a
 positive a is = ⊎_elim (λ yes_. yes_.1) (λ never. let wrong : false ≡ true = sym never.0 ∙ is in cc) (is_positive_ℚ_cases a)
@@ -30,10 +23,10 @@ is_positive a above = ⊎_elim (λ yes_. yes_.0) (λ never. absurd (not_<ℚ a 0
 ascending : (low : ℕ) (fs : List Flow) → ascend low fs ≡ true → AreAscending low fs
 ascending low [] is = tt
 ascending low (f ∷ fs) is =
-    let rest = and_right (nat_lt low f.reaction) (is_positive_ℚ f.flux && ascend f.reaction fs) is in (
-      ltb-true low f.reaction (and_left (nat_lt low f.reaction) (is_positive_ℚ f.flux && ascend f.reaction fs) is),
-      positive f.flux (and_left (is_positive_ℚ f.flux) (ascend f.reaction fs) rest),
-      ascending f.reaction fs (and_right (is_positive_ℚ f.flux) (ascend f.reaction fs) rest),
+    let rest = and_second (nat_lt low f.reaction) (is_positive_ℚ f.flux && ascend f.reaction fs) is in (
+      ltb-true low f.reaction (and_first (nat_lt low f.reaction) (is_positive_ℚ f.flux && ascend f.reaction fs) is),
+      positive f.flux (and_first (is_positive_ℚ f.flux) (ascend f.reaction fs) rest),
+      ascending f.reaction fs (and_second (is_positive_ℚ f.flux) (ascend f.reaction fs) rest),
     )
 
 ascends : (low : ℕ) (fs : List Flow) → AreAscending low fs → ascend low fs ≡ true
@@ -54,7 +47,7 @@ pub segment_found_is : (ts : List Plain) (u : List Flow) → segment_of ts ≡ S
 segment_found_is ts u is =
     let (fs, here, rest) = then_found (λ fs. cond (is_segment fs) (Some fs) None) (flows_of (length ts) ts) u is in
     let (test, same) = if_found (is_segment fs) (Some fs) u rest in
-    subst IsSegment (some_same fs u same) (segment_is fs test)
+    subst IsSegment (some_alike fs u same) (segment_is fs test)
 
 pub segments_are : (us vs : List (List Flow)) (ts : List Plain) → AreSegments us → segments_with us ts ≡ Some vs → AreSegments vs
 segments_are us vs ts all is =

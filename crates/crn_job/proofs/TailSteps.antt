@@ -1,26 +1,26 @@
 -- One line more after the function part, and the end of the text.
 use Rattle.std.proofs.Common.{◌≡◌, ℕ, zero, suc, ◌+◌, ◌*◌, ◌≤◌, ◌++◌, Bool, true, false, cond, List, [], ◌∷◌, length, drop, map, Option, Some, None, refl, sym, ◌∙◌, ap, ap₂, subst, arith, length-append}
-use Rattle.std.proofs.lemmas.Bool.{ltb-false}
-use Rattle.std.specs.Prelude.{nat_lt}
-use Rattle.std.specs.Option.{option_map, option_and_then, option_map_or}
+use Rattle.std.specs.Option.{option_map, option_and_then}
 use Rattle.crn_fraction.specs.Rational.{ℚ}
 use Rattle.crn_token.specs.declared.Counted.{Counted}
 use Rattle.crn_token.specs.declared.Counted.TheVariants as counted
 use Rattle.crn_token.specs.declared.Token.{Token}
 use Rattle.crn_token.specs.declared.Line.{Line}
 use Rattle.crn_token.specs.Plain.{Plain, plain_token, plain_line}
-use Rattle.crn_grammar.specs.Table.{Answer, Read, Malformed, Limited}
+use Rattle.crn_grammar.specs.Table.{Read}
 use Rattle.crn_form_text.specs.Reading.{fraction_at}
-use Rattle.crn_function_text.specs.Words.{rest_of}
-use Rattle.crn_function_text.specs.Grammar.{above}
+use Rattle.crn_token.specs.Words.{rest_of}
+use Rattle.crn_grammar.proofs.LimitLaws.{not_passed}
+use Rattle.crn_grammar.proofs.Turns.{judged_read}
 use Rattle.crn_net.specs.Network.{AreNotNegative}
 use Rattle.crn_net.specs.declared.Rails.{Rails}
 use Rattle.crn_job.specs.declared.words.Word.{Word}
 use Rattle.crn_job.specs.declared.words.Word.TheVariants as word
 use Rattle.crn_job.specs.Words.{first_word}
-use Rattle.crn_job.specs.Grammar.{Tail, amounts_of, numbers_of, segments_with, with_input, with_segments, tail_follow, tail_next, tail_limit}
-use Rattle.crn_job.specs.Reading.{judged, IsKept}
-use Rattle.crn_net_text.proofs.Found.{some_same}
+use Rattle.crn_job.specs.Grammar.{Tail, most_segments, amounts_of, numbers_of, segments_with, with_input, with_segments, tail_follow, tail_next, tail_limit}
+use Rattle.crn_grammar.specs.Reading.{judged}
+use Rattle.crn_job.specs.Reading.{IsKept}
+use Rattle.crn_token.proofs.Options.{some_alike}
 use Rattle.crn_job.proofs.Numbers.{found_nonnegative}
 use Rattle.crn_job.proofs.Segments.{segments_are}
 use Rattle.crn_job.proofs.LineLaws.{word_is, rest_is}
@@ -32,20 +32,13 @@ line_next bytes line tokens rest t w tokens_are is rest_are =
     ap₂ (tail_follow t t.left) (word_is bytes line tokens w tokens_are is) (rest_is bytes line tokens rest tokens_are rest_are)
 
 -- ---- what is kept
-pub not_passed : (count : ℕ) → above 10000 counted.Segments count ≡ None → count ≤ 10000
-not_passed count none = go (nat_lt 10000 count) refl
-  where
-    go : (b : Bool) → nat_lt 10000 count ≡ b → count ≤ 10000
-    go true is = let wrong : ◌≡◌ {A = Option (Counted × ℕ)} (Some (counted.Segments, count)) None = sym (ap (λ b. cond b (Some (counted.Segments, count)) None) is) ∙ none in cc
-    go false is = ltb-false 10000 count is
-
 -- the numbers of a line
 record AreNumbers (n : ℕ) (qs : List ℚ) : Type 0 where
   long : length qs ≡ n
   not_negative : AreNotNegative qs
 
 numbers_are : (n : ℕ) (ts : List Plain) (qs : List ℚ) → numbers_of n ts ≡ Some qs → AreNumbers n qs
-numbers_are zero [] qs is = subst (AreNumbers 0) (some_same [] qs is) (record { long = refl; not_negative = tt })
+numbers_are zero [] qs is = subst (AreNumbers 0) (some_alike [] qs is) (record { long = refl; not_negative = tt })
 numbers_are zero (t ∷ ts) qs is = let wrong : ◌≡◌ {A = Option (List ℚ)} None (Some qs) = is in cc
 numbers_are (suc n) ts qs is = go (fraction_at ts) refl is (λ m rs there. numbers_are n (drop m ts) rs there)
   where
@@ -58,7 +51,7 @@ numbers_are (suc n) ts qs is = go (fraction_at ts) refl is (λ m rs there. numbe
         more None f found = let wrong : ◌≡◌ {A = Option (List ℚ)} None (Some qs) = found in cc
         more (Some rs) f found =
             let are = again m rs f in
-            subst (AreNumbers (suc n)) (some_same (q ∷ rs) qs found) (record { long = omega (arith, are.long); not_negative = (found_nonnegative ts q m e, are.not_negative) })
+            subst (AreNumbers (suc n)) (some_alike (q ∷ rs) qs found) (record { long = omega (arith, are.long); not_negative = (found_nonnegative ts q m e, are.not_negative) })
 
 both_nonnegative : (xs ys : List ℚ) → AreNotNegative xs → AreNotNegative ys → AreNotNegative (xs ++ ys)
 both_nonnegative [] ys are more = more
@@ -90,7 +83,7 @@ kept_segment : (rails : Rails) (inputs : ℕ) (t : Tail) (rest : List Plain) →
 kept_segment rails inputs t rest kept =
     kept_map rails inputs (λ us. with_segments t us) (segments_with t.segments rest) (λ us is low. record {
       rails_are = kept.rails_are;
-      few = not_passed (length us) low;
+      few = not_passed most_segments counted.Segments (length us) low;
       inputs_are = kept.inputs_are;
       not_negative = kept.not_negative;
       segments = segments_are t.segments us rest kept.segments is;
@@ -102,15 +95,7 @@ kept_follow rails inputs zero t word.Segment rest left kept = kept_segment rails
 kept_follow rails inputs _ t _ rest left kept = tt
 
 pub kept_judged : (rails : Rails) (inputs number : ℕ) (t u : Tail) (w : Word) (rest : List Plain) → IsKept rails inputs t → judged tail_limit number (tail_follow t t.left w rest) ≡ Read u → IsKept rails inputs u
-kept_judged rails inputs number t u w rest kept is = go (tail_follow t t.left w rest) is (kept_follow rails inputs t.left t w rest refl kept)
-  where
-    go : (o : Option Tail) → judged tail_limit number o ≡ Read u → KeptNext rails inputs o → IsKept rails inputs u
-    go None e next = let wrong : ◌≡◌ {A = Answer Tail (Counted × ℕ)} (Malformed number) (Read u) = e in cc
-    go (Some v) e next = low (tail_limit v) refl
-      where
-        low : (l : Option (Counted × ℕ)) → tail_limit v ≡ l → IsKept rails inputs u
-        low None none =
-            let same : ◌≡◌ {A = Answer Tail (Counted × ℕ)} (Read v) (Read u) = sym (ap (λ l. option_map_or (λ w. Limited w) l (Read v)) none) ∙ e in
-            let alike : v ≡ u = cc in
-            subst (IsKept rails inputs) alike (next none)
-        low (Some what) past = let wrong : ◌≡◌ {A = Answer Tail (Counted × ℕ)} (Limited what) (Read u) = sym (ap (λ l. option_map_or (λ w. Limited w) l (Read v)) past) ∙ e in cc
+kept_judged rails inputs number t u w rest kept is =
+    let (there, low) = judged_read tail_limit number (tail_follow t t.left w rest) u is in
+    let next : KeptNext rails inputs (Some u) = subst (KeptNext rails inputs) there (kept_follow rails inputs t.left t w rest refl kept) in
+    next low

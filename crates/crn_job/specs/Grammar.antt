@@ -5,13 +5,15 @@ use Rattle.crn_fraction.specs.Rational.{ℚ}
 use Rattle.crn_token.specs.declared.Sign.TheVariants.{Colon}
 use Rattle.crn_token.specs.declared.Counted.{Counted}
 use Rattle.crn_token.specs.declared.Counted.TheVariants as counted
-use Rattle.crn_token.specs.Plain.{Plain, PlainLine, PlainNumber, PlainSign, plain_lines}
+use Rattle.crn_token.specs.Plain.{Plain, PlainLine, PlainNumber, PlainSign, plain_lines, line_number, end_of}
+use Rattle.crn_token.specs.Words.{rest_of, says}
 use Rattle.crn_grammar.specs.Table.{Table, Answer, answer}
 use Rattle.crn_grammar.specs.Part.{Either}
+use Rattle.crn_grammar.specs.Limits.{above}
+use Rattle.crn_grammar.specs.Followed.{Following, followed_table}
 use Rattle.crn_formula.specs.Functions.{Kind, ByFormula, ByPieces, ByLeast}
 use Rattle.crn_form_text.specs.Reading.{fraction_at}
-use Rattle.crn_function_text.specs.Words.{rest_of, says}
-use Rattle.crn_function_text.specs.Grammar.{PlainFunction, Place, function_table, goes_on, line_number, end_of, above}
+use Rattle.crn_function_text.specs.Grammar.{PlainFunction, Place, function_table, goes_on}
 use Rattle.crn_net.specs.declared.Rails.{Rails}
 use Rattle.crn_net.specs.declared.Rails.TheVariants.{Dual, Direct}
 use Rattle.crn_net.specs.declared.Flow.{Flow}
@@ -19,7 +21,6 @@ use Rattle.crn_segments.specs.Signs.{is_positive_ℚ}
 use Rattle.crn_job.specs.declared.words.Word.{Word}
 use Rattle.crn_job.specs.declared.words.Word.TheVariants as word
 use Rattle.crn_job.specs.Words.{first_word}
-use Rattle.crn_job.specs.Followed.{Following, followed_table}
 
 -- ---- what stands after the first word of a line
 

@@ -1,5 +1,4 @@
 pub mod Words
-pub mod Followed
 pub mod Grammar
 pub mod RunGrammar
 pub mod Reading

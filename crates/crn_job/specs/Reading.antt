@@ -1,17 +1,14 @@
 -- What the reader's places and answers show.
-use Rattle.std.specs.Prelude.{ℕ, ◌≡◌, ◌+◌, ◌*◌, ◌≤◌, List, [], ◌∷◌, length, drop, Option, Some, None, Result, Ok, Err}
-use Rattle.std.specs.Option.{option_map_or}
+use Rattle.std.specs.Prelude.{ℕ, ◌≡◌, ◌+◌, ◌*◌, ◌≤◌, List, [], ◌∷◌, length, drop, Result, Ok, Err}
 use Rattle.crn_fraction.specs.Rational.{ℚ, 0ℚ, ◌≤ℚ◌}
 use Rattle.crn_token.specs.declared.Counted.{Counted}
 use Rattle.crn_token.specs.Plain.{plain_lines}
-use Rattle.crn_grammar.specs.Table.{Answer, Read, Malformed, Limited}
+use Rattle.crn_grammar.specs.declared.error.TextError.{TextError}
+use Rattle.crn_grammar.specs.Table.{Answer, Read}
 use Rattle.crn_grammar.specs.Part.{Ends}
-use Rattle.crn_function_text.specs.declared.FunctionTextError.{FunctionTextError}
-use Rattle.crn_function_text.specs.declared.FunctionTextError.TheVariants as function
+use Rattle.crn_grammar.specs.Reading.{Refuses}
 use Rattle.crn_function_text.specs.Reading.{function_of}
 use Rattle.crn_net.specs.Network.{Network, AreNotNegative}
-use Rattle.crn_net_text.specs.declared.NetTextError.{NetTextError}
-use Rattle.crn_net_text.specs.declared.NetTextError.TheVariants as network
 use Rattle.crn_net_text.specs.Grammar.{network_part}
 use Rattle.crn_net.specs.declared.Rails.{Rails}
 use Rattle.crn_net.specs.declared.Flow.{Flow}
@@ -19,8 +16,6 @@ use Rattle.crn_segments.specs.Steps.{AreSegments}
 use Rattle.std.proofs.Common.{Vec, Global}
 use Rattle.crn_job.specs.declared.Job.{Job}
 use Rattle.crn_job.specs.declared.RunJob.{RunJob}
-use Rattle.crn_job.specs.declared.JobError.{JobError}
-use Rattle.crn_job.specs.declared.JobError.TheVariants as error
 use Rattle.crn_job.specs.declared.tail.Tail.{Tail}
 use Rattle.crn_job.specs.declared.run_tail.RunTail.{RunTail}
 use Rattle.crn_job.specs.Grammar as grammar
@@ -42,29 +37,6 @@ run_job_of j = record { network = j.network; state = j.state; segments = j.segme
 abbrev pub BeginsWithNetwork : List ℕ → Network → Type 0
 BeginsWithNetwork bytes net = (next : ℕ) × (network_part bytes ≡ Ends net (drop next (plain_lines bytes)))
 
--- the answer to one line more, by the limit that it may pass
-abbrev pub judged : {S : Type 0} → (S → Option (Counted × ℕ)) → ℕ → Option S → Answer S (Counted × ℕ)
-judged limit number None = Malformed number
-judged limit number (Some t) = option_map_or (λ what. Limited what) (limit t) (Read t)
-
--- a refusal is this answer, or there was no memory
-abbrev pub Refuses : {Y : Type 0} → JobError → Answer Y (Counted × ℕ) → Type 0
-Refuses (error.Malformed n) answer = answer ≡ Malformed n
-Refuses (error.Limit what count) answer = answer ≡ Limited (what, count)
-Refuses error.Memory answer = Unit {0}
-
--- a call gives this answer, or there was no memory
-abbrev pub Gives : {X Y : Type 0} → (X → Y) → Result X JobError → Answer Y (Counted × ℕ) → Type 0
-Gives view (Ok x) answer = answer ≡ Read (view x)
-Gives view (Err e) answer = Refuses e answer
-
--- a call gives what is right for a text
-abbrev pub IsRight : {X Y : Type 0} → (X → Y) → Result X JobError → (Answer Y (Counted × ℕ) → Type 0) → Type 0
-IsRight view (Ok x) Right = Right (Read (view x))
-IsRight view (Err (error.Malformed n)) Right = Right (Malformed n)
-IsRight view (Err (error.Limit what count)) Right = Right (Limited (what, count))
-IsRight view (Err error.Memory) Right = Unit {0}
-
 -- the amounts and segments of the code
 abbrev pub value_of : Vec ℚ Global × Vec (List Flow) Global → grammar.TailValue
 value_of (amounts, segments) = record { amounts = amounts.items; segments = segments.items }
@@ -77,18 +49,6 @@ pub record IsKept (rails : Rails) (inputs : ℕ) (t : grammar.Tail) : Type 0 whe
   pub not_negative : AreNotNegative t.amounts
   pub segments : AreSegments t.segments
 
--- the refusal of a job whose function part is refused so
-abbrev pub refused : FunctionTextError → JobError
-refused (function.Malformed n) = error.Malformed n
-refused (function.Limit what count) = error.Limit what count
-refused function.Memory = error.Memory
-
--- the refusal of a run job whose network part is refused so
-abbrev pub network_refused : NetTextError → JobError
-network_refused (network.Malformed n) = error.Malformed n
-network_refused (network.Limit what count) = error.Limit what count
-network_refused network.Memory = error.Memory
-
 -- ---- the lines after a network part
 
 -- the place of the code is this one: it has the state in place of the amounts that were given
@@ -99,7 +59,7 @@ pub record Shows (c : RunTail) (t : run.RunTail) : Type 0 where
   pub segments : c.segments.items ≡ t.segments
 
 -- a call leads to the place of this answer, or there was no memory
-abbrev pub Leads : Result RunTail JobError → Answer run.RunTail (Counted × ℕ) → Type 0
+abbrev pub Leads : Result RunTail TextError → Answer run.RunTail (Counted × ℕ) → Type 0
 Leads (Ok c) answer = (t : run.RunTail) × (answer ≡ Read t) × Shows c t
 Leads (Err e) answer = Refuses e answer
 

@@ -4,11 +4,11 @@ use Rattle.std.specs.List.{range_with_len}
 use Rattle.std.specs.Option.{option_map, option_and_then}
 use Rattle.crn_fraction.specs.Rational.{ℚ, 0ℚ}
 use Rattle.crn_token.specs.declared.Counted.{Counted}
-use Rattle.crn_token.specs.Plain.{Plain, PlainLine, plain_lines}
+use Rattle.crn_token.specs.Plain.{Plain, PlainLine, plain_lines, line_number, end_of}
+use Rattle.crn_token.specs.Words.{rest_of, says}
 use Rattle.crn_grammar.specs.Table.{Table, Answer, answer}
 use Rattle.crn_grammar.specs.Part.{Either}
-use Rattle.crn_function_text.specs.Words.{rest_of, says}
-use Rattle.crn_function_text.specs.Grammar.{line_number, end_of}
+use Rattle.crn_grammar.specs.Followed.{Following, followed_table}
 use Rattle.crn_net.specs.Network.{Network}
 use Rattle.crn_net.specs.declared.Flow.{Flow}
 use Rattle.crn_net_text.specs.Grammar.{Place, species_at, network_table, goes_on}
@@ -16,7 +16,6 @@ pub use Rattle.crn_job.specs.declared.run_tail.Given.{Given}
 use Rattle.crn_job.specs.declared.words.Word.{Word}
 use Rattle.crn_job.specs.declared.words.Word.TheVariants as word
 use Rattle.crn_job.specs.Words.{first_word}
-use Rattle.crn_job.specs.Followed.{Following, followed_table}
 use Rattle.crn_job.specs.Grammar.{number_of, segments_with, segments_limit}
 
 -- ---- amounts of species

@@ -1,72 +1,42 @@
 //! The text of jobs: a function, the amounts of its inputs, and segments; and of run jobs: a network, amounts of its species, and segments.
 #![tactic(auto)]
 
-ghost use Rattle.std.specs.Prelude.{◌≡◌, ◌≤◌, ◌*◌, length, vec_len, IfOk};
+ghost use Rattle.std.specs.Prelude.{◌≡◌, ◌≤◌, ◌*◌, length, drop, vec_len, IfOk};
 ghost use Rattle.crn_token.specs.Lines.{AreLinesOf};
-ghost use Rattle.crn_token.specs.Plain.{plain_lines};
+ghost use Rattle.crn_token.specs.Plain.{plain_lines, line_number, end_of};
 ghost use Rattle.crn_grammar.specs.Table.{IsText, PassesNone, IsAnswer};
 ghost use Rattle.crn_grammar.specs.Table as table;
+ghost use Rattle.crn_grammar.specs.Followed.{answer_map};
+ghost use Rattle.crn_grammar.specs.Reading.{Gives, IsRight};
 ghost use Rattle.crn_formula.specs.Domains.{domain_for};
 ghost use Rattle.crn_formula.specs.Views.{kind_of};
-ghost use Rattle.crn_function_text.specs.Grammar.{line_number, end_of};
 ghost use Rattle.crn_net.specs.Network.{AreNotNegative, IsNotNegative, IsState};
 ghost use Rattle.crn_function_text.specs.Reading.{function_of};
-ghost use Rattle.crn_job.specs.Followed.{answer_map};
-ghost use Rattle.crn_job.specs.Grammar.{PlainJob, job_table, job_answer, job_with, tail_answer, rails_of, amounts_of, amount_count};
+ghost use Rattle.crn_job.specs.Grammar.{PlainJob, TailValue, job_table, job_answer, job_with, tail_table, tail_answer, rails_of, amounts_of, amount_count};
 ghost use Rattle.crn_job.specs.RunGrammar.{PlainRunJob, run_table, run_answer, run_with, run_tail_answer};
-ghost use Rattle.crn_job.specs.Reading.{Gives, IsRight, BeginsWithNetwork, value_of, job_of, run_value_of, run_job_of, refused, network_refused};
+ghost use Rattle.crn_job.specs.Reading.{BeginsWithNetwork, value_of, job_of, run_value_of, run_job_of};
 
 use crn_formula::{Function, FunctionKind};
 use crn_fraction::Frac;
-use crn_function_text::{FunctionTextError, read_function_lines};
+use crn_function_text::read_function_lines;
+use crn_grammar::TextError;
 use crn_net::{Network, Rails};
-use crn_net_text::{NetTextError, read_network_lines};
+use crn_net_text::read_network_lines;
 use crn_segments::{Segment, State};
-use crn_token::{Counted, Lines, token_lines};
+use crn_token::words::{rest_of, tokens_of};
+use crn_token::{Lines, token_lines};
 use run_tail::RunTail;
-use std::alloc::{AllocError, AllocFailed, Global};
+use std::alloc::Global;
 use tail::Tail;
-use thiserror::Error;
-use words::{first_word, rest_of, tokens_of};
+use words::first_word;
 
 pub mod laws;
 mod run_tail;
 mod tail;
 mod words;
 
-/// Why a text has no job that can be answered. Of several causes the one of the earliest line counts, and a malformed line before a
-/// limit.
-#[derive(Clone, Copy, Debug, PartialEq, Eq, Error)]
-pub enum JobError {
-    /// The first line up to which the lines begin no text, or the line past the last where the text is too short.
-    #[error("line {line} is malformed")]
-    Malformed { line: usize },
-    /// The first line that passes a limit.
-    #[error("limit {what:?} {count}")]
-    Limit { what: Counted, count: u64 },
-    #[error("out of memory")]
-    Memory,
-}
-
-impl From<AllocError> for JobError {
-    ghost use Rattle.crn_job.specs.declared.JobError.TheVariants.{Memory};
-
-    ghost from_gives = { λ _ e. e ≡ Memory };
-
-    fn from(_e: AllocError) -> JobError {
-        JobError::Memory
-    }
-}
-
-impl<T: Drop> From<AllocFailed<T>> for JobError {
-    ghost use Rattle.crn_job.specs.declared.JobError.TheVariants.{Memory};
-
-    ghost from_gives = { λ _ e. e ≡ Memory };
-
-    fn from(_e: AllocFailed<T>) -> JobError {
-        JobError::Memory
-    }
-}
+/// Why a text has no job that can be answered.
+pub type JobError = TextError;
 
 /// A function, the amounts of its inputs and segments.
 #[derive(Debug, Drop)]
@@ -99,6 +69,28 @@ pub fn read_job_tail(
     requires from { from ≤ vec_len lines.now.lines }
     requires some { 1 ≤ inputs }
     requires few { inputs ≤ 8 }
+    ensures answer { Gives value_of result (tail_answer rails inputs bytes.now from) }
+    // Each answer is the right one: the amounts and segments of the lines, the malformed line, or the first limit that is passed.
+    ensures part { IsRight value_of result (IsAnswer (tail_table rails inputs) line_number (end_of bytes.now) (drop from (plain_lines bytes.now))) }
+    // Lines that pass no limit are read.
+    ensures read { (v : TailValue) → IsText (tail_table rails inputs) (drop from (plain_lines bytes.now)) v → PassesNone (tail_table rails inputs) (drop from (plain_lines bytes.now))
+        → Gives value_of result (table.Read v) }
+    ensures amounts { IfOk result (λ r. (length r.0.items ≡ inputs * amounts_of rails) × AreNotNegative r.0.items) }
+{
+    read_tail(alloc, bytes, lines, from, inputs, rails)
+}
+
+// The lines after a function part, one by one.
+fn read_tail(
+    alloc: Global,
+    bytes: &[u8],
+    lines: &Lines,
+    from: usize,
+    inputs: usize,
+    rails: Rails,
+) -> Result<(Vec<Frac>, Vec<Segment>), JobError>
+    requires lines { AreLinesOf bytes.now lines.now }
+    requires from { from ≤ vec_len lines.now.lines }
     ensures answer { Gives value_of result (tail_answer rails inputs bytes.now from) }
     ensures amounts { IfOk result (λ r. (length r.0.items ≡ inputs * amounts_of rails) × AreNotNegative r.0.items) }
 {
@@ -138,18 +130,7 @@ fn read_text(alloc: Global, bytes: &[u8]) -> Result<Job, JobError>
     let lines = token_lines(alloc, bytes)?;
     match read_function_lines(alloc, bytes, &lines, 0) {
         Ok((function, next)) => read_rest(alloc, bytes, &lines, function, next),
-        Err(error) => Err(refused(error)),
-    }
-}
-
-// The refusal of a job whose function part is refused so.
-fn refused(error: FunctionTextError) -> JobError
-    ensures { result ≡ refused error }
-{
-    match error {
-        FunctionTextError::Malformed { line } => JobError::Malformed { line },
-        FunctionTextError::Limit { what, count } => JobError::Limit { what, count },
-        FunctionTextError::Memory => JobError::Memory,
+        Err(error) => Err(error),
     }
 }
 
@@ -212,18 +193,7 @@ fn read_run_text(alloc: Global, bytes: &[u8]) -> Result<RunJob, JobError>
     let lines = token_lines(alloc, bytes)?;
     match read_network_lines(alloc, bytes, &lines) {
         Ok((network, next)) => read_run_rest(alloc, bytes, &lines, network, next),
-        Err(error) => Err(network_refused(error)),
-    }
-}
-
-// The refusal of a run job whose network part is refused so.
-fn network_refused(error: NetTextError) -> JobError
-    ensures { result ≡ network_refused error }
-{
-    match error {
-        NetTextError::Malformed { line } => JobError::Malformed { line },
-        NetTextError::Limit { what, count } => JobError::Limit { what, count },
-        NetTextError::Memory => JobError::Memory,
+        Err(error) => Err(error),
     }
 }
 

@@ -1,19 +1,20 @@
 //! The amount and segment lines after a network part.
 
-ghost use Rattle.std.specs.Prelude.{ℕ, List, ◌≡◌, ◌<◌, ◌≤◌, map, drop, length, IfOk, IfSome};
-ghost use Rattle.std.specs.Option.{option_map, option_and_then};
+ghost use Rattle.std.specs.Prelude.{ℕ, List, ◌≡◌, ◌<◌, ◌≤◌, map, length, IfOk, IfSome};
 ghost use Rattle.crn_fraction.specs.Rational.{0ℚ, ◌≤ℚ◌};
 ghost use Rattle.crn_token.specs.Plain.{plain_token};
-ghost use Rattle.crn_net_text.specs.Grammar.{within, species_at};
+ghost use Rattle.crn_grammar.specs.Reading.{judged};
 ghost use Rattle.crn_job.specs.RunGrammar as run;
-ghost use Rattle.crn_job.specs.Reading.{judged, Shows, Leads};
+ghost use Rattle.crn_job.specs.Reading.{Shows, Leads};
 
 use crate::JobError;
-use crate::tail::{MOST_SEGMENTS, after, one_number, push_segment};
-use crate::words::{Word, begins, number_at, rest_of};
+use crate::tail::{MOST_SEGMENTS, one_number, push_segment};
+use crate::words::Word;
 use crn_fraction::Frac;
+use crn_net_text::species_at;
 use crn_segments::{Segment, State};
 use crn_token::Token;
+use crn_token::words::after;
 use std::alloc::{AllocError, Global};
 
 /// A species and its amount.
@@ -32,33 +33,6 @@ pub struct RunTail {
     /// The amounts so far, and 0 of the other species.
     state: State,
     segments: Vec<Segment>,
-}
-
-// The species, if it is above `low` and up to the number of species.
-fn within(low: u32, species: u32, number: u64) -> Option<u32>
-    ensures value { result ≡ within low species number }
-    ensures found { IfSome result (λ a. (low < a) × (a ≤ species)) }
-{
-    if u64::from(low) < number && number <= u64::from(species) {
-        Some(number as u32)
-    } else {
-        None
-    }
-}
-
-// The species `Sa` that begins the tokens.
-fn species_at(bytes: &[u8], low: u32, species: u32, tokens: &[Token]) -> Option<u32>
-    ensures value { result ≡ species_at low species (map (plain_token bytes.now) tokens.now) }
-    ensures found { IfSome result (λ a. (low < a) × (a ≤ species)) }
-{
-    if begins(bytes, tokens, b"S") {
-        match number_at(rest_of(tokens)) {
-            Some(number) => within(low, species, number),
-            None => None,
-        }
-    } else {
-        None
-    }
 }
 
 // The species and the amount that are all the tokens.

@@ -1,13 +1,14 @@
 //! The input and segment lines after a function part.
 
-ghost use Rattle.std.specs.Prelude.{ℕ, List, [], ◌∷◌, ◌+◌, Some, None, ◌≡◌, ◌<◌, ◌≤◌, ◌-◌, map, length, drop, IfOk, IfSome};
+ghost use Rattle.std.specs.Prelude.{ℕ, List, [], ◌∷◌, ◌+◌, Some, None, ◌≡◌, ◌<◌, ◌≤◌, ◌-◌, map, length, IfOk, IfSome};
 ghost use Rattle.std.specs.Option.{option_map, option_map_or};
 ghost use Rattle.crn_fraction.specs.Rational.{0ℚ, ◌≤ℚ◌};
 ghost use Rattle.crn_grammar.specs.Table as table;
+ghost use Rattle.crn_grammar.specs.Reading.{judged, Gives};
 ghost use Rattle.crn_token.specs.Plain.{plain_token};
 ghost use Rattle.crn_job.specs.Grammar as grammar;
 ghost use Rattle.crn_job.specs.Grammar.{numbers_of, reaction_at, flow_to, flow_at, flows_of, segment_of, number_of, segments_with, segments_limit, tail_start};
-ghost use Rattle.crn_job.specs.Reading.{judged, Gives, value_of};
+ghost use Rattle.crn_job.specs.Reading.{value_of};
 
 use crate::JobError;
 use crate::words::Word;
@@ -15,6 +16,7 @@ use crn_form_text::read_fraction;
 use crn_fraction::Frac;
 use crn_net::Rails;
 use crn_segments::{Flow, Segment};
+use crn_token::words::after;
 use crn_token::{Counted, Sign, Token};
 use std::alloc::{AllocError, Global};
 
@@ -58,14 +60,6 @@ fn two_numbers(tokens: &[Token]) -> Option<(Frac, Frac)>
         }
         None => None,
     }
-}
-
-/// The tokens after so many.
-pub fn after(tokens: &[Token], count: usize) -> &[Token]
-    ensures { result.now ≡ drop count tokens.now }
-{
-    let (_, rest) = tokens.split_at(count.min(tokens.len()));
-    rest
 }
 
 // The number of a reaction before a `:`, where both begin the tokens.

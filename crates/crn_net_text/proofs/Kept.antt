@@ -7,10 +7,13 @@ use Rattle.crn_token.specs.declared.Counted.{Counted}
 use Rattle.crn_token.specs.declared.Counted.TheVariants as counted
 use Rattle.crn_token.specs.declared.Sign.TheVariants.{Arrow}
 use Rattle.crn_token.specs.Plain.{Plain, PlainLine, PlainWord, PlainNumber, PlainSign}
-use Rattle.crn_grammar.specs.Table.{Answer, Read, Malformed, Limited, after, CanEnd}
+use Rattle.crn_grammar.specs.Table.{Read, after, CanEnd}
+use Rattle.crn_grammar.specs.Reading.{judged}
+use Rattle.crn_grammar.proofs.LimitLaws.{not_passed, neither}
+use Rattle.crn_grammar.proofs.Turns.{judged_read}
 use Rattle.crn_grammar.proofs.TableLaws.{can_end}
-use Rattle.crn_function_text.specs.Words.{rest_of, says}
-use Rattle.crn_function_text.specs.Grammar.{above, or_else}
+use Rattle.crn_token.specs.Words.{rest_of, says, begins, number_at}
+use Rattle.crn_grammar.specs.Limits.{above, or_else}
 use Rattle.crn_net.specs.Network.{Reaction, Network, IsReaction, IsEnds, AreDifferent, IsApart, IsContext, input_species, numbered}
 use Rattle.crn_net.specs.Inputs.{species_of, AreNew}
 use Rattle.crn_net.specs.Limits.{IsValid}
@@ -19,9 +22,10 @@ use Rattle.crn_net.specs.declared.Rails.TheVariants.{Dual, Direct}
 use Rattle.crn_net.specs.declared.Ends.{Ends}
 use Rattle.crn_net.specs.declared.Ends.TheVariants.{Pair, One}
 use Rattle.crn_net.proofs.InputLists.{species_push, ends_push, different-append, end_different}
-use Rattle.crn_net_text.specs.Grammar.{Place, Start, Titled, Naming, Placed, Closed, Listing, least, frame, with_reaction, is_named, is_new, leaves_one, rails_of, version_of, title_with, title, sized, size, with_input, with_context, with_output, after_inputs, naming, count, listing, follow, limit, network_table, begins, number_at, number_of, one_of, ends_of, reaction_of}
-use Rattle.crn_net_text.specs.Reading.{judged, AreNamed, IsFramed, IsFine, AreFew, IsLow, IsKept}
-use Rattle.crn_net_text.proofs.Found.{some_same, then_found, map_found, if_found, else_found, both, ends_found, one_found, reaction_found}
+use Rattle.crn_net_text.specs.Grammar.{Place, Start, Titled, Naming, Placed, Closed, Listing, least, frame, with_reaction, is_named, is_new, leaves_one, rails_of, version_of, title_with, title, sized, size, with_input, with_context, with_output, after_inputs, naming, count, listing, follow, limit, network_table, number_of, one_of, ends_of, reaction_of}
+use Rattle.crn_net_text.specs.Reading.{AreNamed, IsFramed, IsFine, AreFew, IsLow, IsKept}
+use Rattle.crn_net_text.proofs.Found.{both, ends_found, one_found, reaction_found}
+use Rattle.crn_token.proofs.Options.{some_alike, then_found, map_found, if_found, else_found}
 use Rattle.crn_net_text.proofs.Left.{left_here, left}
 
 -- ---- names
@@ -59,18 +63,6 @@ none_named : (two : Bool) (n : ℕ) → 1 ≤ n → leaves_one two n [] ≡ true
 none_named false n some = refl
 none_named true n some = left_here [] n 1 (omega arith) some refl
 
--- ---- limits
-not_passed : (greatest : ℕ) (what : Counted) (n : ℕ) → above greatest what n ≡ None → n ≤ greatest
-not_passed greatest what n none = go (nat_lt greatest n) refl
-  where
-    go : (b : Bool) → nat_lt greatest n ≡ b → n ≤ greatest
-    go true is = let wrong : ◌≡◌ {A = Option (Counted × ℕ)} (Some (what, n)) None = sym (ap (λ b. cond b (Some (what, n)) None) is) ∙ none in cc
-    go false is = ltb-false greatest n is
-
-neither : (a b : Option (Counted × ℕ)) → or_else a b ≡ None → (a ≡ None) × (b ≡ None)
-neither None b none = (refl, none)
-neither (Some what) b none = let wrong : ◌≡◌ {A = Option (Counted × ℕ)} (Some what) None = none in cc
-
 -- ---- one line more
 -- what holds after a line
 abbrev Leads : Place → Place → Type 0
@@ -91,7 +83,7 @@ after_size rails two ts t is =
     let (enough, same) = if_found (nat_le (least rails two) n) (Some (Naming rails two n [])) t more in
     let fits = leb-true (least rails two) n enough in
     let some : 1 ≤ n = omega (arith, fits, some_least rails two) in
-    subst (Leads (Titled rails two)) (some_same (Naming rails two n []) t same) (
+    subst (Leads (Titled rails two)) (some_alike (Naming rails two n []) t same) (
       record { enough = fits; ends = tt; different = tt; leaves = none_named two n some },
       λ low none. (some, not_passed 65536 counted.Species n (neither (above 65536 counted.Species n) (above 8 counted.Inputs 0) none).0, omega arith),
     )
@@ -121,7 +113,7 @@ after_input rails two n inputs ts t named is =
     let (test, same) = if_found (is_new inputs e && leaves_one two n (inputs ++ e ∷ [])) (Some (Naming rails two n (inputs ++ e ∷ []))) t rest in
     let (new, leaves) = both (is_new inputs e) (leaves_one two n (inputs ++ e ∷ [])) test in
     let end = ends_found rails n ts e here in
-    subst (Leads (Naming rails two n inputs)) (some_same (Naming rails two n (inputs ++ e ∷ [])) t same) (
+    subst (Leads (Naming rails two n inputs)) (some_alike (Naming rails two n (inputs ++ e ∷ [])) t same) (
       record {
         enough = named.enough;
         ends = ends_push rails n inputs e named.ends end;
@@ -138,7 +130,7 @@ after_naming rails true n inputs ts t named some is =
     let (k, here, more) = then_found (with_context rails n inputs) (one_of n (rest_of ts)) t rest in
     let (free, same) = else_found (is_named inputs k) (Some (Placed rails n inputs k)) t more in
     let (low, high) = one_found n k (rest_of ts) here in
-    subst (Leads (Naming rails true n inputs)) (some_same (Placed rails n inputs k) t same) ((named, some, (low, high, named_apart inputs k free)), λ few none. few)
+    subst (Leads (Naming rails true n inputs)) (some_alike (Placed rails n inputs k) t same) ((named, some, (low, high, named_apart inputs k free)), λ few none. few)
 
 after_named : (rails : Rails) (two : Bool) (n : ℕ) (inputs : List Ends) (ts : List Plain) (t : Place) → AreNamed rails two n inputs → naming rails two n inputs ts ≡ Some t → Leads (Naming rails two n inputs) t
 after_named rails two n inputs ts t named is = go (begins (codes "input") ts) is
@@ -194,20 +186,11 @@ leads (Placed rails n inputs k) t ts fine is = after_output (Placed rails n inpu
 leads (Closed net) t ts fine is = after_count net ts t fine.0 fine.1 is
 leads (Listing m net) t ts fine is = after_listing m net ts t fine is
 
-pub kept_judged : (number : ℕ) (s t : Place) (ts : List Plain) → IsKept s → judged number (follow s ts) ≡ Read t → IsKept t
-kept_judged number s t ts kept is = go (follow s ts) refl is
-  where
-    go : (o : Option Place) → follow s ts ≡ o → judged number o ≡ Read t → IsKept t
-    go None e there = let wrong : ◌≡◌ {A = Answer Place (Counted × ℕ)} (Malformed number) (Read t) = there in cc
-    go (Some u) e there = low (limit u) refl
-      where
-        low : (l : Option (Counted × ℕ)) → limit u ≡ l → IsKept t
-        low None none =
-            let same : ◌≡◌ {A = Answer Place (Counted × ℕ)} (Read u) (Read t) = sym (ap (λ l. option_map_or (λ what. Limited what) l (Read u)) none) ∙ there in
-            let alike : u ≡ t = cc in
-            let (fine, few) = leads s u ts kept.0 e in
-            subst IsKept alike (fine, few kept.1 none)
-        low (Some what) past = let wrong : ◌≡◌ {A = Answer Place (Counted × ℕ)} (Limited what) (Read t) = sym (ap (λ l. option_map_or (λ w. Limited w) l (Read u)) past) ∙ there in cc
+pub kept_judged : (number : ℕ) (s t : Place) (ts : List Plain) → IsKept s → judged limit number (follow s ts) ≡ Read t → IsKept t
+kept_judged number s t ts kept is =
+    let (there, low) = judged_read limit number (follow s ts) t is in
+    let (fine, few) = leads s t ts kept.0 there in
+    (fine, few kept.1 low)
 
 -- ---- each place can end
 abbrev CanStop : Place → Type 0

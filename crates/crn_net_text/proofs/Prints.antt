@@ -8,7 +8,7 @@ use Rattle.crn_token.specs.Plain.{Plain, PlainWord, PlainNumber, PlainSign, plai
 use Rattle.crn_token.specs.Printed.{Item, Shown, Blank, shown, IsToken, IsPrinted, ends_before, AreLines, lines_read}
 use Rattle.crn_token.proofs.PrintedLaws.{text_reads}
 use Rattle.crn_grammar.specs.Table.{IsText, IsAnswer, Read}
-use Rattle.crn_function_text.specs.Grammar.{line_number, end_of}
+use Rattle.crn_token.specs.Plain.{line_number, end_of}
 use Rattle.crn_net.specs.Network.{Part, Reaction, Network, AreParts, IsReaction, IsNetwork, IsEnds, AreEnds, IsContext}
 use Rattle.crn_net.specs.Reactions.{EachReaction}
 use Rattle.crn_net.specs.Limits.{IsValid}
@@ -19,7 +19,8 @@ use Rattle.crn_net.specs.declared.Ends.TheVariants.{Pair, One}
 use Rattle.crn_net.proofs.TakersTable.{each_reaction}
 use Rattle.crn_net_text.specs.NetworkText.{symbol, species_items, part_items, side_items, gives_items, reaction_items, ends_items, rails_word, version, count_line, context_lines, input_line, output_line, header_lines, ends_lines, reaction_lines, network_lines, network_text, IsSmall, IsSmallReaction, HasSmallCounts}
 use Rattle.crn_net_text.specs.Grammar.{Say, network_table}
-use Rattle.crn_net_text.proofs.Spells.{shown-append, text_is_grammar}
+use Rattle.crn_token.proofs.Joins.{shown-append}
+use Rattle.crn_net_text.proofs.Spells.{text_is_grammar}
 use Rattle.crn_net_text.proofs.Sizes.{small_text}
 
 ends_more : (t : Plain) (xs ys : List Item) → IsTrue (ends_before t xs) → IsTrue (ends_before t (xs ++ Blank ∷ ys))

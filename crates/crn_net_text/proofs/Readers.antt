@@ -6,12 +6,12 @@ use Rattle.std.specs.Option.{option_map, option_and_then, option_map_or}
 use Rattle.crn_token.specs.declared.Counted.TheVariants as counted
 use Rattle.crn_token.specs.Plain.{Plain}
 use Rattle.crn_grammar.specs.Table.{Read, Limited}
-use Rattle.crn_function_text.specs.Words.{rest_of}
-use Rattle.crn_function_text.specs.Grammar.{above}
+use Rattle.crn_token.specs.Words.{rest_of, begins, number_at}
+use Rattle.crn_grammar.specs.Limits.{above}
 use Rattle.crn_net.specs.Network.{Part, Reaction, Network}
 use Rattle.crn_net.specs.declared.Rails.{Rails}
-use Rattle.crn_net_text.specs.Grammar.{Titled, Listing, within, species_at, many, part_by, part_at, side_at, side_of, gives_of, reaction_with, reaction_of, is_arrow, is_nothing, begins, number_at, number_of, is_plus, rails_of, version_of, title_with, sized, size, count}
-use Rattle.crn_net_text.specs.Reading.{judged}
+use Rattle.crn_net_text.specs.Grammar.{Titled, Listing, within, species_at, many, part_by, part_at, side_at, side_of, gives_of, reaction_with, reaction_of, is_arrow, is_nothing, number_of, is_plus, rails_of, version_of, title_with, sized, size, count, limit}
+use Rattle.crn_grammar.specs.Reading.{judged}
 use Rattle.crn_net_text.proofs.Found.{next_side}
 
 pub species_by : (low n : ℕ) (ts us : List Plain) (o : Option ℕ) → begins (codes "S") ts ≡ true → us ≡ rest_of ts → o ≡ number_at us → option_and_then (within low n) o ≡ species_at low n ts
@@ -97,12 +97,12 @@ count_by net ts us o begin us_is number =
 pub none_read : (m : ℕ) (net : Network) → net.reactions ≡ [] → length net.reactions + m ≡ m
 none_read m net none = omega (arith, ap length none)
 
-pub count_past : (line m : ℕ) (net : Network) → net.reactions ≡ [] → 65536 < m → judged line (Some (Listing m net)) ≡ Limited (counted.Reactions, m)
+pub count_past : (line m : ℕ) (net : Network) → net.reactions ≡ [] → 65536 < m → judged limit line (Some (Listing m net)) ≡ Limited (counted.Reactions, m)
 count_past line m net none past =
     ap (λ k. option_map_or (λ what. Limited what) (above 65536 counted.Reactions k) (Read (Listing m net))) (none_read m net none)
     ∙ ap (λ b. option_map_or (λ what. Limited what) (cond b (Some (counted.Reactions, m)) None) (Read (Listing m net))) (lt-ltb 65536 m past)
 
-pub count_low : (line m : ℕ) (net : Network) → net.reactions ≡ [] → m ≤ 65536 → judged line (Some (Listing m net)) ≡ Read (Listing m net)
+pub count_low : (line m : ℕ) (net : Network) → net.reactions ≡ [] → m ≤ 65536 → judged limit line (Some (Listing m net)) ≡ Read (Listing m net)
 count_low line m net none low =
     ap (λ k. option_map_or (λ what. Limited what) (above 65536 counted.Reactions k) (Read (Listing m net))) (none_read m net none)
     ∙ ap (λ b. option_map_or (λ what. Limited what) (cond b (Some (counted.Reactions, m)) None) (Read (Listing m net))) (le-ltb 65536 m low)

@@ -5,8 +5,9 @@ use Rattle.std.specs.Option.{option_map, option_and_then}
 use Rattle.crn_token.specs.declared.Sign.TheVariants.{Plus, Arrow}
 use Rattle.crn_token.specs.Plain.{Plain, PlainLine, PlainWord, PlainNumber, PlainSign}
 use Rattle.crn_token.specs.Printed.{Item, Shown, Blank, shown}
+use Rattle.crn_token.proofs.Joins.{shown-append}
 use Rattle.crn_grammar.specs.Table.{IsText, after}
-use Rattle.crn_function_text.specs.Words.{says}
+use Rattle.crn_token.specs.Words.{says}
 use Rattle.crn_net.specs.Network.{Part, Reaction, Network, IsNetwork, IsReaction, AreParts, IsEnds, AreEnds, AreDifferent, IsApart, IsContext, input_species, numbered}
 use Rattle.crn_net.specs.Inputs.{species_of, AreNew}
 use Rattle.crn_net.specs.declared.Rails.{Rails}
@@ -47,11 +48,6 @@ goes-append s t (x ∷ xs) ys is = go (λ u there. goes-append u t xs ys there) 
     go : ((u : Place) → goes u xs ≡ Some t → goes u (xs ++ ys) ≡ goes t ys) → (o : Option Place) → option_and_then (λ u. goes u xs) o ≡ Some t → option_and_then (λ u. goes u (xs ++ ys)) o ≡ goes t ys
     go again None there = let wrong : ◌≡◌ {A = Option Place} None (Some t) = there in cc
     go again (Some u) there = again u there
-
-pub shown-append : (xs ys : List Item) → shown (xs ++ ys) ≡ shown xs ++ shown ys
-shown-append [] ys = refl
-shown-append (Blank ∷ xs) ys = shown-append xs ys
-shown-append (Shown token ∷ xs) ys = ap (λ l. token ∷ l) (shown-append xs ys)
 
 -- ---- species and parts
 abbrev pub species_tokens : ℕ → List Plain → List Plain

@@ -1,17 +1,16 @@
 -- The grammar of network text, line by line, apart from how a text is read.
 use Rattle.std.specs.Prelude.{ℕ, zero, suc, ◌+◌, ◌≡◌, ◌<◌, Bool, true, false, ◌&&◌, ◌||◌, not, nat_lt, nat_le, ◌==◌, pos, List, [], ◌∷◌, ◌++◌, length, drop, codes, Option, Some, None, if◌then◌else◌}
-use Rattle.std.specs.Str.{bytes_eq}
 use Rattle.std.specs.List.{list_any}
 use Rattle.std.specs.Option.{option_map, option_and_then}
 use Rattle.crn_token.specs.declared.Sign.TheVariants.{Plus, Arrow}
 use Rattle.crn_token.specs.declared.Counted.{Counted}
 use Rattle.crn_token.specs.declared.Counted.TheVariants as counted
-use Rattle.crn_token.specs.Plain.{Plain, PlainLine, PlainWord, PlainNumber, PlainSign, plain_lines}
+use Rattle.crn_token.specs.Plain.{Plain, PlainLine, PlainNumber, PlainSign, plain_lines, line_number, end_of}
+use Rattle.crn_token.specs.Words.{rest_of, says, begins, number_at}
 use Rattle.crn_token.specs.Printed.{Item, shown}
 use Rattle.crn_grammar.specs.Table.{Table, Answer, answer}
 use Rattle.crn_grammar.specs.Part.{PartAnswer, part_answer}
-use Rattle.crn_function_text.specs.Words.{rest_of, says}
-use Rattle.crn_function_text.specs.Grammar.{line_number, end_of, above, or_else}
+use Rattle.crn_grammar.specs.Limits.{above, or_else}
 use Rattle.crn_net.specs.Network.{Part, Reaction, Network, IsNetwork}
 use Rattle.crn_net.specs.declared.Rails.{Rails}
 use Rattle.crn_net.specs.declared.Rails.TheVariants.{Dual, Direct}
@@ -34,18 +33,6 @@ pub record IsNetworkText (lines : List PlainLine) (net : Network) : Type 0 where
   pub say : Say lines (network_lines net)
 
 -- ---- what stands in a line
--- the first token is this word
-abbrev pub begins : List ℕ → List Plain → Bool
-begins word [] = false
-begins word (PlainWord letters ∷ tokens) = bytes_eq letters word
-begins word (PlainNumber n ∷ tokens) = false
-begins word (PlainSign sign ∷ tokens) = false
-
--- the number that is the first token
-abbrev pub number_at : List Plain → Option ℕ
-number_at (PlainNumber (pos n) ∷ tokens) = Some n
-number_at _ = None
-
 -- the number that is all the tokens
 abbrev pub number_of : List Plain → Option ℕ
 number_of (PlainNumber (pos n) ∷ []) = Some n

@@ -1,16 +1,9 @@
--- What the reader's places and answers show.
-use Rattle.std.specs.Prelude.{ℕ, ◌+◌, ◌≡◌, ◌≤◌, ◌<◌, Bool, true, IsTrue, List, [], length, drop, Option, Some, None, Result, Ok, Err}
-use Rattle.std.specs.Option.{option_map_or}
-use Rattle.crn_token.specs.declared.Counted.{Counted}
-use Rattle.crn_token.specs.Plain.{PlainLine}
-use Rattle.crn_grammar.specs.Table.{Answer, Read, Malformed, Limited}
-use Rattle.crn_grammar.specs.Part.{PartAnswer, Ends as PartEnds, Wrong, Past}
+-- What the reader's places show, and what holds at them.
+use Rattle.std.specs.Prelude.{ℕ, ◌+◌, ◌≡◌, ◌≤◌, ◌<◌, Bool, true, IsTrue, List, [], length, Some}
 use Rattle.crn_net.specs.Network.{Network, IsNetwork, AreEnds, AreDifferent, IsContext, input_species}
 use Rattle.crn_net.specs.declared.Rails.{Rails}
 use Rattle.crn_net.specs.declared.Ends.{Ends}
 use Rattle.crn_net.specs.Views.{network_of}
-use Rattle.crn_net_text.specs.declared.NetTextError.{NetTextError}
-use Rattle.crn_net_text.specs.declared.NetTextError.TheVariants as error
 use Rattle.crn_net_text.specs.declared.place.Place.{Place}
 use Rattle.crn_net_text.specs.declared.place.Place.TheVariants as place
 use Rattle.crn_net_text.specs.Grammar as grammar
@@ -23,32 +16,6 @@ place_of (place.Naming rails two n inputs) = grammar.Naming rails two n inputs.i
 place_of (place.Placed rails n inputs k) = grammar.Placed rails n inputs.items k
 place_of (place.Closed parts) = grammar.Closed (network_of parts)
 place_of (place.Listing m parts) = grammar.Listing m (network_of parts)
-
--- the answer to one line more
-abbrev pub judged : ℕ → Option grammar.Place → Answer grammar.Place (Counted × ℕ)
-judged number None = Malformed number
-judged number (Some t) = option_map_or (λ what. Limited what) (grammar.limit t) (Read t)
-
--- a call gives this answer, or there was no memory
-abbrev pub Gives : {X Y : Type 0} → (X → Y) → Result X NetTextError → Answer Y (Counted × ℕ) → Type 0
-Gives view (Ok x) answer = answer ≡ Read (view x)
-Gives view (Err (error.Malformed n)) answer = answer ≡ Malformed n
-Gives view (Err (error.Limit what count)) answer = answer ≡ Limited (what, count)
-Gives view (Err error.Memory) answer = Unit {0}
-
--- a call gives the answer to a part of these lines: the network and the index of the line after it
-abbrev pub GivesPart : List PlainLine → Result (Network × ℕ) NetTextError → PartAnswer PlainLine Network (Counted × ℕ) → Type 0
-GivesPart lines (Ok (net, next)) part = part ≡ PartEnds net (drop next lines)
-GivesPart lines (Err (error.Malformed n)) part = part ≡ Wrong n
-GivesPart lines (Err (error.Limit what count)) part = part ≡ Past (what, count)
-GivesPart lines (Err error.Memory) part = Unit {0}
-
--- a call gives what is right for a text
-abbrev pub IsRight : Result Network NetTextError → (Answer Network (Counted × ℕ) → Type 0) → Type 0
-IsRight (Ok net) Right = Right (Read net)
-IsRight (Err (error.Malformed n)) Right = Right (Malformed n)
-IsRight (Err (error.Limit what count)) Right = Right (Limited (what, count))
-IsRight (Err error.Memory) Right = Unit {0}
 
 -- inputs of species that exist and differ, with one left for a context that is to come
 pub record AreNamed (rails : Rails) (two : Bool) (n : ℕ) (inputs : List Ends) : Type 0 where

@@ -1,12 +1,11 @@
 //! What holds of network text. Each function here does nothing: its contract is a theorem about the definitions of `specs/`.
 
 ghost use Rattle.std.specs.Prelude.{List, ◌≡◌, ◌<◌, ◌↔◌, length};
-ghost use Rattle.crn_token.specs.Plain.{PlainLine, plain_lines};
+ghost use Rattle.crn_token.specs.Plain.{PlainLine, plain_lines, line_number, end_of};
 ghost use Rattle.crn_token.specs.Printed.{AreLines, lines_read};
 ghost use Rattle.crn_grammar.specs.Table.{CanEnd, IsText, PassesNone, IsAnswer, Read};
 ghost use Rattle.crn_net.specs.Network.{Network, IsNetwork};
 ghost use Rattle.crn_net.specs.Limits.{IsWithinLimits, IsValid};
-ghost use Rattle.crn_function_text.specs.Grammar.{line_number, end_of};
 ghost use Rattle.crn_net_text.specs.NetworkText.{network_lines, network_text, HasSmallCounts};
 ghost use Rattle.crn_net_text.specs.Grammar.{IsNetworkText, network_table};
 

@@ -3,22 +3,22 @@
 
 ghost use Rattle.std.specs.Prelude.{◌≡◌, ◌≤◌, List, drop, vec_len, IfOk};
 ghost use Rattle.crn_token.specs.Lines.{AreLinesOf};
-ghost use Rattle.crn_token.specs.Plain.{PlainLine, plain_lines};
+ghost use Rattle.crn_token.specs.Plain.{PlainLine, plain_lines, line_number, end_of};
 ghost use Rattle.crn_grammar.specs.Table.{IsText, PassesNone, IsAnswer};
 ghost use Rattle.crn_grammar.specs.Table as table;
-ghost use Rattle.crn_grammar.specs.Part.{part_end};
+ghost use Rattle.crn_grammar.specs.Part.{IsPart, IsPartAnswer, Ends, part_end};
+ghost use Rattle.crn_grammar.specs.Reading.{Gives, GivesPart, IsRight, IsRightPart};
 ghost use Rattle.crn_net.specs.Network as plain;
 ghost use Rattle.crn_net.specs.Limits.{IsWithinLimits};
-ghost use Rattle.crn_function_text.specs.Grammar.{line_number, end_of};
-ghost use Rattle.crn_net_text.specs.Grammar.{IsNetworkText, network_table, network_answer, network_part};
-ghost use Rattle.crn_net_text.specs.Reading.{place_of, Gives, GivesPart, IsRight, IsKept};
+ghost use Rattle.crn_net_text.specs.Grammar.{IsNetworkText, network_table, goes_on, network_answer, network_part};
+ghost use Rattle.crn_net_text.specs.Reading.{place_of, IsKept};
 
+use crn_grammar::TextError;
 use crn_net::Network;
-use crn_token::{Counted, Lines, token_lines};
+use crn_token::words::tokens_of;
+use crn_token::{Lines, token_lines};
 use place::Place;
-use std::alloc::{AllocError, AllocFailed, Global};
-use thiserror::Error;
-use words::tokens_of;
+use std::alloc::Global;
 
 pub mod laws;
 mod place;
@@ -27,40 +27,10 @@ mod side;
 mod words;
 
 pub use print::print_network;
+pub use side::species_at;
 
-/// Why a text has no network that can be answered. Of several causes the one of the earliest line counts, and a malformed line before
-/// a limit.
-#[derive(Clone, Copy, Debug, PartialEq, Eq, Error)]
-pub enum NetTextError {
-    /// The first line up to which the lines begin no text, or the line past the last where the text is too short.
-    #[error("line {line} is malformed")]
-    Malformed { line: usize },
-    /// The first line that passes a limit.
-    #[error("limit {what:?} {count}")]
-    Limit { what: Counted, count: u64 },
-    #[error("out of memory")]
-    Memory,
-}
-
-impl From<AllocError> for NetTextError {
-    ghost use Rattle.crn_net_text.specs.declared.NetTextError.TheVariants.{Memory};
-
-    ghost from_gives = { λ _ e. e ≡ Memory };
-
-    fn from(_e: AllocError) -> NetTextError {
-        NetTextError::Memory
-    }
-}
-
-impl<T: Drop> From<AllocFailed<T>> for NetTextError {
-    ghost use Rattle.crn_net_text.specs.declared.NetTextError.TheVariants.{Memory};
-
-    ghost from_gives = { λ _ e. e ≡ Memory };
-
-    fn from(_e: AllocFailed<T>) -> NetTextError {
-        NetTextError::Memory
-    }
-}
+/// Why a text has no network that can be answered.
+pub type NetTextError = TextError;
 
 /// The network part that begins the lines, and the index of the first line after it: the part ends with the last reaction that its
 /// line of reactions counts.
@@ -70,7 +40,25 @@ pub fn read_network_lines(
     lines: &Lines,
 ) -> Result<(Network, usize), NetTextError>
     requires lines { AreLinesOf bytes.now lines.now }
-    ensures answer { GivesPart (plain_lines bytes.now) result (network_part bytes.now) }
+    ensures answer { GivesPart (λ n. n) (plain_lines bytes.now) result (network_part bytes.now) }
+    // Each answer is the right one: the network of the part, the malformed line, or the first limit that is passed.
+    ensures part { IsRightPart (λ n. n) (plain_lines bytes.now) result (IsPartAnswer network_table goes_on line_number (end_of bytes.now) (plain_lines bytes.now)) }
+    // A part that passes no limit is read.
+    ensures read { (net : plain.Network) (rest : List PlainLine) → IsPart network_table goes_on (plain_lines bytes.now) net rest
+        → GivesPart (λ n. n) (plain_lines bytes.now) result (Ends net rest) }
+    ensures next { IfOk result (λ r. r.1 ≤ vec_len lines.now.lines) }
+{
+    read_part(alloc, bytes, lines)
+}
+
+// The network part, line by line.
+fn read_part(
+    alloc: Global,
+    bytes: &[u8],
+    lines: &Lines,
+) -> Result<(Network, usize), NetTextError>
+    requires lines { AreLinesOf bytes.now lines.now }
+    ensures answer { GivesPart (λ n. n) (plain_lines bytes.now) result (network_part bytes.now) }
     ensures next { IfOk result (λ r. r.1 ≤ vec_len lines.now.lines) }
 {
     let mut place = Place::Start;
@@ -95,7 +83,7 @@ fn part_up_to(
     index: usize,
 ) -> Result<(Network, usize), NetTextError>
     requires { IsKept (place_of place) }
-    ensures answer { (lines : List PlainLine) → GivesPart lines result (part_end network_table number (place_of place) (drop index lines)) }
+    ensures answer { (lines : List PlainLine) → GivesPart (λ n. n) lines result (part_end network_table number (place_of place) (drop index lines)) }
     ensures next { IfOk result (λ r. r.1 ≡ index) }
 {
     match place.network(alloc, number) {
@@ -107,7 +95,7 @@ fn part_up_to(
 /// The network of a text.
 pub fn read_network(alloc: Global, bytes: &[u8]) -> Result<Network, NetTextError>
     // Each answer is the right one: the network of the text, the malformed line, or the first limit that is passed.
-    ensures answer { IsRight result (IsAnswer network_table line_number (end_of bytes.now) (plain_lines bytes.now)) }
+    ensures answer { IsRight (λ n. n) result (IsAnswer network_table line_number (end_of bytes.now) (plain_lines bytes.now)) }
     // A text that passes no limit is read.
     ensures read { (net : plain.Network) → IsText network_table (plain_lines bytes.now) net → PassesNone network_table (plain_lines bytes.now)
         → Gives (λ n. n) result (table.Read net) }

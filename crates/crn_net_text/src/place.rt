@@ -4,14 +4,17 @@ ghost use Rattle.std.specs.Prelude.{ℕ, List, Some, None, true, false, not, ◌
 ghost use Rattle.std.specs.Option.{option_map, option_map_or, option_and_then};
 ghost use Rattle.crn_token.specs.Plain.{plain_token};
 ghost use Rattle.crn_grammar.specs.Table as table;
+ghost use Rattle.crn_grammar.specs.Reading.{judged, Gives};
 ghost use Rattle.crn_net.specs.Views.{network_of, reactions_of};
 ghost use Rattle.crn_net_text.specs.Grammar as grammar;
-ghost use Rattle.crn_net_text.specs.Reading.{place_of, judged, Gives, IsKept};
+ghost use Rattle.crn_net_text.specs.Reading.{place_of, IsKept};
 
 use crate::NetTextError;
 use crate::side::{ends_of, one_of, reaction_of};
-use crate::words::{begins, number_at, number_of, rest_of};
+use crate::words::number_of;
+use crn_grammar::TextError;
 use crn_net::{Ends, Network, NetworkError, Parts, Rails};
+use crn_token::words::{begins, number_at, rest_of};
 use crn_token::{Counted, Token};
 use std::alloc::Global;
 
@@ -69,7 +72,7 @@ fn titled(bytes: &[u8], context: bool, tokens: &[Token]) -> Option<Place>
 }
 
 // The version and the rails.
-#[tactic(auto, using(crate::proofs::Tokens::rest_map))]
+#[tactic(auto, using(crn_token::proofs::LineLaws::rest_map))]
 fn title_with(bytes: &[u8], tokens: &[Token]) -> Option<Place>
     ensures { option_map place_of result ≡ grammar.title_with (map (plain_token bytes.now) tokens.now) }
 {
@@ -83,7 +86,7 @@ fn title_with(bytes: &[u8], tokens: &[Token]) -> Option<Place>
 }
 
 // The first line.
-#[tactic(auto, using(crate::proofs::Tokens::rest_map))]
+#[tactic(auto, using(crn_token::proofs::LineLaws::rest_map))]
 fn title(bytes: &[u8], tokens: &[Token]) -> Option<Place>
     ensures { option_map place_of result ≡ grammar.title (map (plain_token bytes.now) tokens.now) }
 {
@@ -114,7 +117,7 @@ fn sized(
     context: bool,
     species: u64,
 ) -> Result<Place, NetTextError>
-    ensures { Gives place_of result (judged line (grammar.sized rails context species)) }
+    ensures { Gives place_of result (judged grammar.limit line (grammar.sized rails context species)) }
 {
     if species < least(rails, context) {
         return Err(NetTextError::Malformed { line });
@@ -129,7 +132,7 @@ fn sized(
 }
 
 // The line of the number of species.
-#[tactic(auto, using(crate::proofs::Tokens::rest_map))]
+#[tactic(auto, using(crn_token::proofs::LineLaws::rest_map))]
 fn size(
     alloc: Global,
     bytes: &[u8],
@@ -138,7 +141,7 @@ fn size(
     context: bool,
     tokens: &[Token],
 ) -> Result<Place, NetTextError>
-    ensures { Gives place_of result (judged line (grammar.size rails context (map (plain_token bytes.now) tokens.now))) }
+    ensures { Gives place_of result (judged grammar.limit line (grammar.size rails context (map (plain_token bytes.now) tokens.now))) }
 {
     if begins(bytes, tokens, b"species") {
         match number_of(rest_of(tokens)) {
@@ -212,7 +215,7 @@ fn with_input(
 ) -> Result<Place, NetTextError>
     requires species { species ≤ 65536 }
     requires few { length inputs.items ≤ 8 }
-    ensures { Gives place_of result (judged line (grammar.with_input rails context species inputs.items ends)) }
+    ensures { Gives place_of result (judged grammar.limit line (grammar.with_input rails context species inputs.items ends)) }
 {
     if !is_new(&inputs, ends) {
         return Err(NetTextError::Malformed { line });
@@ -232,7 +235,7 @@ fn with_input(
 }
 
 // The context, and then the output.
-#[tactic(auto, using(crate::proofs::Tokens::rest_map))]
+#[tactic(auto, using(crn_token::proofs::LineLaws::rest_map))]
 fn with_context(
     bytes: &[u8],
     line: usize,
@@ -241,7 +244,7 @@ fn with_context(
     inputs: Vec<Ends>,
     tokens: &[Token],
 ) -> Result<Place, NetTextError>
-    ensures { Gives place_of result (judged line (grammar.after_inputs rails true species inputs.items (map (plain_token bytes.now) tokens.now))) }
+    ensures { Gives place_of result (judged grammar.limit line (grammar.after_inputs rails true species inputs.items (map (plain_token bytes.now) tokens.now))) }
 {
     if begins(bytes, tokens, b"context") {
         match one_of(bytes, species, rest_of(tokens)) {
@@ -260,7 +263,7 @@ fn with_context(
 }
 
 // The output, after which there is no reaction yet.
-#[tactic(auto, using(crate::proofs::Tokens::rest_map))]
+#[tactic(auto, using(crn_token::proofs::LineLaws::rest_map))]
 fn with_output(
     alloc: Global,
     bytes: &[u8],
@@ -271,7 +274,7 @@ fn with_output(
     context: Option<u32>,
     tokens: &[Token],
 ) -> Result<Place, NetTextError>
-    ensures { Gives place_of result (judged line (grammar.with_output rails species inputs.items context (map (plain_token bytes.now) tokens.now))) }
+    ensures { Gives place_of result (judged grammar.limit line (grammar.with_output rails species inputs.items context (map (plain_token bytes.now) tokens.now))) }
 {
     if begins(bytes, tokens, b"output") {
         match ends_of(bytes, rails, species, rest_of(tokens)) {
@@ -291,7 +294,7 @@ fn with_output(
 }
 
 // One more input, or what comes after one input or more.
-#[tactic(auto, using(crate::proofs::Tokens::rest_map))]
+#[tactic(auto, using(crn_token::proofs::LineLaws::rest_map))]
 fn naming(
     alloc: Global,
     bytes: &[u8],
@@ -304,7 +307,7 @@ fn naming(
 ) -> Result<Place, NetTextError>
     requires species { species ≤ 65536 }
     requires few { length inputs.items ≤ 8 }
-    ensures { Gives place_of result (judged line (grammar.naming rails context species inputs.items (map (plain_token bytes.now) tokens.now))) }
+    ensures { Gives place_of result (judged grammar.limit line (grammar.naming rails context species inputs.items (map (plain_token bytes.now) tokens.now))) }
 {
     if begins(bytes, tokens, b"input") {
         match ends_of(bytes, rails, species, rest_of(tokens)) {
@@ -321,10 +324,10 @@ fn naming(
 }
 
 // The number of reactions.
-#[tactic(auto, using(crate::proofs::Tokens::rest_map))]
+#[tactic(auto, using(crn_token::proofs::LineLaws::rest_map))]
 fn count(bytes: &[u8], line: usize, parts: Parts, tokens: &[Token]) -> Result<Place, NetTextError>
     requires { parts.reactions.items ≡ [] }
-    ensures { Gives place_of result (judged line (grammar.count (network_of parts) (map (plain_token bytes.now) tokens.now))) }
+    ensures { Gives place_of result (judged grammar.limit line (grammar.count (network_of parts) (map (plain_token bytes.now) tokens.now))) }
 {
     if begins(bytes, tokens, b"reactions") {
         match number_of(rest_of(tokens)) {
@@ -354,7 +357,7 @@ fn listing(
     tokens: &[Token],
 ) -> Result<Place, NetTextError>
     requires { length parts.reactions.items + left ≤ 65536 }
-    ensures { Gives place_of result (judged line (grammar.listing left (network_of parts) (map (plain_token bytes.now) tokens.now))) }
+    ensures { Gives place_of result (judged grammar.limit line (grammar.listing left (network_of parts) (map (plain_token bytes.now) tokens.now))) }
 {
     if left == 0 {
         return Err(NetTextError::Malformed { line });
@@ -369,12 +372,12 @@ fn listing(
 }
 
 // Parts that lines within the limits gave can only be refused for want of memory.
-fn want_of_memory(error: NetworkError) -> NetTextError
+fn want_of_memory(error: NetworkError) -> TextError
     requires { error ≡ NetworkError.Memory }
-    ensures { result ≡ NetTextError.Memory }
+    ensures { result ≡ TextError.Memory }
 {
     prove!(matches!(error, NetworkError::Memory));
-    NetTextError::Memory
+    TextError::Memory
 }
 
 impl Place {
@@ -397,7 +400,7 @@ impl Place {
         tokens: &[Token],
     ) -> Result<Place, NetTextError>
         requires { IsKept (place_of self) }
-        ensures { Gives place_of result (judged line (grammar.follow (place_of self) (map (plain_token bytes.now) tokens.now))) }
+        ensures { Gives place_of result (judged grammar.limit line (grammar.follow (place_of self) (map (plain_token bytes.now) tokens.now))) }
     {
         match self {
             Place::Start => match title(bytes, tokens) {

@@ -6,14 +6,16 @@ ghost use Rattle.crn_token.specs.Plain.{plain_token};
 ghost use Rattle.crn_net.specs.Views.{part_of, parts_of, reaction_of};
 ghost use Rattle.crn_net_text.specs.Grammar as grammar;
 
-use crate::words::{after, begins, is_arrow, is_nothing, is_plus, number_at, rest_of};
+use crate::words::{is_arrow, is_nothing, is_plus};
 use crn_net::{Ends, Part, Rails, Reaction};
 use crn_token::Token;
+use crn_token::words::{after, begins, number_at, rest_of};
 use std::alloc::{AllocError, Global};
 
 // The species, if it is above `low` and up to the number of species.
 fn within(low: u32, species: u32, number: u64) -> Option<u32>
-    ensures { result ≡ grammar.within low species number }
+    ensures value { result ≡ grammar.within low species number }
+    ensures found { IfSome result (λ a. (low < a) × (a ≤ species)) }
 {
     if u64::from(low) < number && number <= u64::from(species) {
         Some(number as u32)
@@ -22,10 +24,11 @@ fn within(low: u32, species: u32, number: u64) -> Option<u32>
     }
 }
 
-// The species `Sa` that begins the tokens.
-#[tactic(auto, using(crate::proofs::Tokens::rest_map))]
-fn species_at(bytes: &[u8], low: u32, species: u32, tokens: &[Token]) -> Option<u32>
-    ensures { result ≡ grammar.species_at low species (map (plain_token bytes.now) tokens.now) }
+/// The species `Sa` that begins the tokens, if it is above `low` and there are so many species.
+#[tactic(auto, using(crn_token::proofs::LineLaws::rest_map))]
+pub fn species_at(bytes: &[u8], low: u32, species: u32, tokens: &[Token]) -> Option<u32>
+    ensures value { result ≡ grammar.species_at low species (map (plain_token bytes.now) tokens.now) }
+    ensures found { IfSome result (λ a. (low < a) × (a ≤ species)) }
 {
     if begins(bytes, tokens, b"S") {
         match number_at(rest_of(tokens)) {
@@ -38,7 +41,7 @@ fn species_at(bytes: &[u8], low: u32, species: u32, tokens: &[Token]) -> Option<
 }
 
 // The part that begins the tokens, and how many it has.
-#[tactic(auto, using(crate::proofs::Tokens::rest_map))]
+#[tactic(auto, using(crn_token::proofs::LineLaws::rest_map))]
 fn part_at(bytes: &[u8], low: u32, species: u32, tokens: &[Token]) -> Option<(Part, usize)>
     ensures value { option_map (λ p. (part_of p.0, p.1)) result ≡ grammar.part_at low species (map (plain_token bytes.now) tokens.now) }
     ensures taken { IfSome result (λ p. (2 ≤ p.1) × (p.1 ≤ 3)) }
@@ -134,7 +137,7 @@ fn gives_of(
 }
 
 // The reaction that takes this, by the tokens from its arrow on.
-#[tactic(auto, using(crate::proofs::Tokens::rest_map))]
+#[tactic(auto, using(crn_token::proofs::LineLaws::rest_map))]
 fn reaction_with(
     alloc: Global,
     bytes: &[u8],

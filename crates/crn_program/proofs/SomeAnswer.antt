@@ -8,11 +8,11 @@ use Rattle.std.proofs.lemmas.Slice.Eq.{bytes_eq-Decides}
 use Rattle.std.proofs.lemmas.Bool.Decides.{not_from_Decides}
 use Rattle.crn_fraction.specs.Rational.{ℚ, ◌-ℚ◌}
 use Rattle.crn_token.specs.declared.Counted.{Counted}
-use Rattle.crn_token.specs.Plain.{plain_lines}
+use Rattle.crn_token.specs.Plain.{plain_lines, line_number, end_of}
 use Rattle.crn_grammar.specs.Table as grammar
 use Rattle.crn_grammar.proofs.TableLaws.{answer_is}
 use Rattle.crn_formula.specs.Functions.{Kind, ByFormula, ByPieces, ByLeast, IsFitting, IsGivenByPieces}
-use Rattle.crn_function_text.specs.Grammar.{PlainFunction, function_table, line_number, end_of}
+use Rattle.crn_function_text.specs.Grammar.{PlainFunction, function_table}
 use Rattle.crn_function_text.proofs.GrammarLaws.{function_can_end}
 use Rattle.crn_function_text.proofs.Kept.{text_fits}
 use Rattle.crn_net.specs.Network.{Network, IsNetwork, IsState, IsFeedForward, AreAmounts, StablyComputes, Run, amount, start, after, after_all, completed, alone, numbered}

@@ -9,7 +9,8 @@ use Rattle.crn_token.specs.Piece.{longest, token_of, span_of}
 use Rattle.crn_token.specs.Lines.{tokens_from, joined}
 use Rattle.crn_token.specs.Plain.{plain_of}
 use Rattle.crn_token.specs.Spans.{IsSpelled}
-use Rattle.crn_token.proofs.SpanLaws.{HasSpan, token_span, none_some, some_alike}
+use Rattle.crn_token.proofs.SpanLaws.{HasSpan, token_span, none_some}
+use Rattle.crn_token.proofs.Options.{some_alike}
 use Rattle.crn_token.proofs.PlainLaws.{plains, plains-token, piece_here}
 
 -- the token of a piece, if there is one, is what the piece says, and so are those of the rest

@@ -1,10 +1,10 @@
 use Rattle.std.proofs.Common.{◌≡◌, ◌+◌, ◌<◌, ◌≤◌, length, drop, map, refl, sym, ◌∙◌, ap, subst, arith}
 use Rattle.crn_token.specs.Plain.{plain_token, plain_lines}
 use Rattle.crn_grammar.specs.Table.{Read}
-use Rattle.crn_function_text.proofs.Steps.{line_at, past_lines, count_is}
+use Rattle.crn_token.proofs.LineLaws.{line_at, past_lines, count_is}
 use Rattle.crn_net.specs.Network.{IsNotNegative}
 use Rattle.crn_job.specs.RunGrammar.{run_start, run_follow, run_tail_table, run_tail_answer, state_given}
-use Rattle.crn_job.proofs.LineLaws.{turn_read, turn_refused, turn_ends}
+use Rattle.crn_grammar.proofs.Turns.{turn_read, turn_refused, turn_ends}
 use Rattle.crn_job.proofs.States.{length-state, state_not_negative}
 use Rattle.crn_job.proofs.RunSteps.{run_line_next, run_kept, value_shown}
 use Rattle.crn_job.proofs.read_run_tail.Goals as goal

@@ -1,7 +1,7 @@
 use Rattle.std.proofs.Common.{sym, subst}
+use Rattle.crn_grammar.specs.Reading.{Gives}
 use Rattle.crn_function_text.specs.Reading.{function_of}
-use Rattle.crn_job.specs.Grammar.{job_answer}
-use Rattle.crn_job.specs.Reading.{Gives, Refuses, job_of}
+use Rattle.crn_job.specs.Reading.{job_of}
 use Rattle.crn_job.proofs.JobLaws.{job_read, job_refused}
 use Rattle.crn_job.proofs.read_text.Goals as goal
 
@@ -10,5 +10,4 @@ returns-in-Ok-clause-answer c =
     subst (Gives job_of c.read_rest.result) (sym (job_read c.args.bytes.now (function_of c.in-Ok.function) c.in-Ok.next c.in-Ok.ensures.answer)) c.read_rest.ensures.answer
 
 pub returns-clause-answer : goal.returns-clause-answer
-returns-clause-answer c =
-    subst (λ e. Refuses e (job_answer c.args.bytes.now)) (sym c.refused.ensures) (job_refused c.args.bytes.now c.in-Err.error c.in-Err.ensures.answer)
+returns-clause-answer c = job_refused c.args.bytes.now c.in-Err.error c.in-Err.ensures.answer

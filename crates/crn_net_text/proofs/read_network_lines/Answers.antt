@@ -1,59 +1,22 @@
-use Rattle.std.proofs.Common.{◌≡◌, ◌+◌, ◌<◌, ◌≤◌, length, drop, map, sym, ◌∙◌, ap, subst, arith}
-use Rattle.crn_token.specs.Plain.{plain_token, plain_lines}
-use Rattle.crn_grammar.specs.Part.{part_end}
-use Rattle.crn_function_text.proofs.Steps.{line_at, lines_within, count_is}
-use Rattle.crn_net_text.specs.Grammar.{network_table}
-use Rattle.crn_net_text.specs.Reading.{GivesPart, place_of}
-use Rattle.crn_net_text.proofs.Tokens.{said_is, open_where, shut_where}
-use Rattle.crn_net_text.proofs.Steps.{turn_read, turn_refused, turn_ends, text_ends}
-use Rattle.crn_net_text.proofs.Kept.{kept_judged}
+use Rattle.std.proofs.Common.{subst}
+use Rattle.crn_token.specs.Plain.{plain_lines, line_number, end_of}
+use Rattle.crn_grammar.specs.Part.{IsPartAnswer}
+use Rattle.crn_grammar.specs.Reading.{GivesPart}
+use Rattle.crn_grammar.proofs.RightParts.{part_answer_is, part_is}
+use Rattle.crn_grammar.proofs.Turns.{right_part_given}
+use Rattle.crn_net.specs.Network.{Network}
+use Rattle.crn_net_text.specs.Grammar.{network_table, goes_on, network_part}
+use Rattle.crn_net_text.proofs.Kept.{network_can_end}
 use Rattle.crn_net_text.proofs.read_network_lines.Goals as goal
 
-pub returns-then-is_whole-clause-answer : goal.returns-then-is_whole-clause-answer
-returns-then-is_whole-clause-answer c =
-    let bytes = c.args.bytes.now in
-    let line = c.index-line.result.now in
-    let within : c.loop-index.index < length c.args.lines.now.lines.items = omega (arith, c.args.lines.now.lines.ok.0) in
-    let here = line_at bytes c.args.lines.now c.loop-index.index line c.requires.lines within c.index-line.ensures in
-    subst (GivesPart (plain_lines bytes) c.part_up_to.result)
-    (turn_ends bytes c.loop-index.index line (drop (c.loop-index.index + 1) (plain_lines bytes)) (place_of c.loop-index.place) here c.loop-index.invariant.told (shut_where _ (sym c.is_whole.ensures ∙ c.if-is_whole.true)))
-    (c.part_up_to.ensures.answer (plain_lines bytes))
+pub returns-clause-part : goal.returns-clause-part
+returns-clause-part c =
+    let lines = plain_lines c.args.bytes.now in
+    let end = end_of c.args.bytes.now in
+    right_part_given (λ (n : Network). n) lines (IsPartAnswer network_table goes_on line_number end lines) c.read_part.result (network_part c.args.bytes.now) c.read_part.ensures.answer
+    (part_answer_is network_table goes_on line_number end network_can_end lines)
 
-pub returns-in-Err-clause-answer : goal.returns-in-Err-clause-answer
-returns-in-Err-clause-answer c =
-    let bytes = c.args.bytes.now in
-    let line = c.index-line.result.now in
-    let within : c.loop-index.index < length c.args.lines.now.lines.items = omega (arith, c.args.lines.now.lines.ok.0) in
-    let here = line_at bytes c.args.lines.now c.loop-index.index line c.requires.lines within c.index-line.ensures in
-    turn_refused bytes c.loop-index.index line (drop (c.loop-index.index + 1) (plain_lines bytes)) (place_of c.loop-index.place) c.in-Err.error (map (plain_token bytes) c.tokens_of.result.now) here c.loop-index.invariant.told
-    (open_where _ (sym c.is_whole.ensures ∙ c.if-is_whole.false)) (ap (map (plain_token bytes)) c.tokens_of.ensures ∙ said_is bytes line) c.in-Err.ensures
-
-pub loop-index-preserved : goal.loop-index-preserved
-loop-index-preserved c =
-    let bytes = c.args.bytes.now in
-    let line = c.index-line.result.now in
-    let within : c.loop-index.index < length c.args.lines.now.lines.items = omega (arith, c.args.lines.now.lines.ok.0) in
-    let here = line_at bytes c.args.lines.now c.loop-index.index line c.requires.lines within c.index-line.ensures in
-    record {
-      told = turn_read bytes c.loop-index.index line (drop (c.loop-index.index + 1) (plain_lines bytes)) (place_of c.loop-index.place) (place_of c.in-Ok.next) (map (plain_token bytes) c.tokens_of.result.now) here c.loop-index.invariant.told
-          (open_where _ (sym c.is_whole.ensures ∙ c.if-is_whole.false)) (ap (map (plain_token bytes)) c.tokens_of.ensures ∙ said_is bytes line) c.in-Ok.ensures;
-      kept = kept_judged line.number (place_of c.loop-index.place) (place_of c.in-Ok.next) (map (plain_token bytes) c.tokens_of.result.now) c.loop-index.invariant.kept c.in-Ok.ensures;
-    }
-
-pub overflow_add-lines : goal.overflow_add-lines
-overflow_add-lines c =
-    let bound = lines_within c.args.bytes.now in
-    let count = count_is c.args.bytes.now c.args.lines.now c.requires.lines in
-    omega (arith, bound, count)
-
-pub returns-clause-answer : goal.returns-clause-answer
-returns-clause-answer c =
-    let past : length c.args.lines.now.lines.items ≤ c.loop-index.index = omega (arith, c.args.lines.now.lines.ok.0) in
-    let len_is : c.len.result ≡ length c.args.lines.now.lines.items = omega (arith, c.args.lines.now.lines.ok.0) in
-    subst (GivesPart (plain_lines c.args.bytes.now) c.part_up_to-2.result)
-    (ap (λ n. part_end network_table (c.args.lines.now.count + 1) (place_of c.loop-index.place) (drop n (plain_lines c.args.bytes.now))) len_is
-    ∙ text_ends c.args.bytes.now c.args.lines.now c.loop-index.index (place_of c.loop-index.place) c.requires.lines past c.loop-index.invariant.told)
-    (c.part_up_to-2.ensures.answer (plain_lines c.args.bytes.now))
-
-pub part_up_to-requires : goal.part_up_to-requires
-part_up_to-requires c = c.loop-index.invariant.kept
+pub returns-clause-read : goal.returns-clause-read
+returns-clause-read c net rest is =
+    let lines = plain_lines c.args.bytes.now in
+    subst (GivesPart (λ (n : Network). n) lines c.read_part.result) (part_is network_table goes_on line_number (end_of c.args.bytes.now) lines net rest is) c.read_part.ensures.answer

@@ -1,6 +1,6 @@
 use Rattle.std.proofs.Common.{◌+◌, ◌<◌, ◌≤◌, length, drop, arith}
 use Rattle.crn_token.specs.Plain.{plain_line, plain_lines}
-use Rattle.crn_function_text.proofs.Steps.{line_at, past_lines}
+use Rattle.crn_token.proofs.LineLaws.{line_at, past_lines}
 use Rattle.crn_net_text.proofs.Steps.{text_read, text_goes_on, text_refused}
 use Rattle.crn_net_text.proofs.read_text.Goals as goal
 

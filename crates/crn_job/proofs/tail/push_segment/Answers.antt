@@ -4,7 +4,7 @@ use Rattle.crn_token.specs.declared.Counted.TheVariants as counted
 use Rattle.crn_grammar.specs.Table.{Read, Limited}
 use Rattle.crn_net.specs.declared.Flow.{Flow}
 use Rattle.crn_job.specs.Grammar.{segments_limit, most_segments}
-use Rattle.crn_job.specs.Reading.{judged}
+use Rattle.crn_grammar.specs.Reading.{judged}
 use Rattle.crn_job.proofs.Flows.{few_segments, many_segments}
 use Rattle.crn_job.proofs.tail.push_segment.Goals as goal
 

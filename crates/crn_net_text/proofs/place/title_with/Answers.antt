@@ -1,9 +1,9 @@
 use Rattle.std.proofs.Common.{map, sym, ap, refl, ◌∙◌}
 use Rattle.std.specs.Option.{option_map, option_and_then}
 use Rattle.crn_token.specs.Plain.{plain_token}
-use Rattle.crn_function_text.specs.Words.{rest_of}
+use Rattle.crn_token.specs.Words.{rest_of}
 use Rattle.crn_net_text.specs.Grammar.{Titled, rails_of}
-use Rattle.crn_net_text.proofs.Tokens.{rest_map}
+use Rattle.crn_token.proofs.LineLaws.{rest_map}
 use Rattle.crn_net_text.proofs.Readers.{title_by}
 use Rattle.crn_net_text.proofs.place.title_with.Goals as goal
 

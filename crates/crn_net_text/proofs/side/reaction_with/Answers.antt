@@ -3,7 +3,7 @@ use Rattle.crn_token.specs.Plain.{plain_token}
 use Rattle.std.specs.Option.{option_map}
 use Rattle.crn_net.specs.declared.Part.{Part}
 use Rattle.crn_net.specs.Views.{parts_of}
-use Rattle.crn_net_text.proofs.Tokens.{rest_map}
+use Rattle.crn_token.proofs.LineLaws.{rest_map}
 use Rattle.crn_net_text.proofs.Readers.{reaction_none, reaction_by}
 use Rattle.crn_net_text.proofs.side.reaction_with.Goals as goal
 

@@ -1,7 +1,8 @@
 use Rattle.std.proofs.Common.{map, sym, subst}
 use Rattle.crn_token.specs.Plain.{plain_token}
 use Rattle.crn_job.specs.RunGrammar.{run_follow, run_limit}
-use Rattle.crn_job.specs.Reading.{judged, Leads}
+use Rattle.crn_grammar.specs.Reading.{judged}
+use Rattle.crn_job.specs.Reading.{Leads}
 use Rattle.crn_job.proofs.run_tail.RunTail.after.Goals as goal
 
 pub returns-in-Segment : goal.returns-in-Segment

@@ -3,7 +3,7 @@ use Rattle.std.specs.Option.{option_map}
 use Rattle.crn_fraction.specs.Rational.{ℚ}
 use Rattle.crn_token.specs.Plain.{plain_token}
 use Rattle.crn_job.specs.RunGrammar.{Given, given_of, last_species, with_amount, run_limit}
-use Rattle.crn_job.specs.Reading.{judged}
+use Rattle.crn_grammar.specs.Reading.{judged}
 use Rattle.crn_job.proofs.States.{one_given}
 use Rattle.crn_job.proofs.RunSteps.{amount_first, judged_amount}
 use Rattle.crn_job.proofs.run_tail.RunTail.with_amount.Goals as goal

@@ -1,11 +1,11 @@
 use Rattle.std.proofs.Common.{List, map, refl, sym, ◌∙◌, ap, subst}
 use Rattle.crn_token.specs.Plain.{plain_token}
 use Rattle.crn_net.specs.declared.Flow.{Flow}
-use Rattle.crn_job.specs.Followed.{answer_map}
+use Rattle.crn_grammar.specs.Followed.{answer_map}
 use Rattle.crn_job.specs.Grammar.{segments_with, segments_limit}
 use Rattle.crn_job.specs.RunGrammar.{with_segments}
-use Rattle.crn_job.specs.Reading.{judged, Refuses}
-use Rattle.crn_job.proofs.Flows.{refused_with}
+use Rattle.crn_grammar.specs.Reading.{judged, Refuses}
+use Rattle.crn_grammar.proofs.FollowedLaws.{refused_with}
 use Rattle.crn_job.proofs.RunSteps.{judged_follow_segments}
 use Rattle.crn_job.proofs.run_tail.RunTail.with_segment.Goals as goal
 

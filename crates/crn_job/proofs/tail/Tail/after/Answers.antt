@@ -2,7 +2,8 @@ use Rattle.std.proofs.Common.{◌-◌, map, sym, subst, ◌∙◌, ap, arith}
 use Rattle.std.specs.Option.{option_map}
 use Rattle.crn_token.specs.Plain.{plain_token}
 use Rattle.crn_job.specs.Grammar.{with_input, tail_follow, tail_limit, numbers_of, amounts_of}
-use Rattle.crn_job.specs.Reading.{tail_of, judged, Gives}
+use Rattle.crn_grammar.specs.Reading.{judged, Gives}
+use Rattle.crn_job.specs.Reading.{tail_of}
 use Rattle.crn_job.proofs.Flows.{follow_input, follow_segment}
 use Rattle.crn_job.proofs.tail.Tail.after.Goals as goal
 

@@ -4,7 +4,8 @@ use Rattle.crn_fraction.specs.Rational.{ℚ}
 use Rattle.crn_token.specs.Plain.{plain_token}
 use Rattle.crn_grammar.specs.Table.{Read}
 use Rattle.crn_job.specs.Grammar.{with_input, tail_limit}
-use Rattle.crn_job.specs.Reading.{tail_of, judged}
+use Rattle.crn_grammar.specs.Reading.{judged}
+use Rattle.crn_job.specs.Reading.{tail_of}
 use Rattle.crn_job.proofs.Numbers.{one_is}
 use Rattle.crn_job.proofs.Flows.{judged_few}
 use Rattle.crn_job.proofs.tail.Tail.direct_input.Goals as goal

@@ -3,7 +3,8 @@ use Rattle.std.specs.Option.{option_map}
 use Rattle.crn_fraction.specs.Rational.{ℚ}
 use Rattle.crn_grammar.specs.Table.{Read}
 use Rattle.crn_job.specs.Grammar.{with_input, tail_limit}
-use Rattle.crn_job.specs.Reading.{tail_of, judged}
+use Rattle.crn_grammar.specs.Reading.{judged}
+use Rattle.crn_job.specs.Reading.{tail_of}
 use Rattle.crn_job.proofs.Flows.{judged_few}
 use Rattle.crn_job.proofs.tail.Tail.dual_input.Goals as goal
 

@@ -1,9 +1,11 @@
 use Rattle.std.proofs.Common.{map, refl, sym, ◌∙◌, ap, subst}
 use Rattle.crn_token.specs.Plain.{plain_token}
-use Rattle.crn_job.specs.Followed.{answer_map}
+use Rattle.crn_grammar.specs.Followed.{answer_map}
 use Rattle.crn_job.specs.Grammar.{with_segments, segments_with, segments_limit, tail_limit}
-use Rattle.crn_job.specs.Reading.{tail_of, judged, Refuses}
-use Rattle.crn_job.proofs.Flows.{judged_segments, refused_with}
+use Rattle.crn_grammar.specs.Reading.{judged, Refuses}
+use Rattle.crn_job.specs.Reading.{tail_of}
+use Rattle.crn_grammar.proofs.FollowedLaws.{refused_with}
+use Rattle.crn_job.proofs.Flows.{judged_segments}
 use Rattle.crn_job.proofs.tail.Tail.with_segment.Goals as goal
 
 pub returns-in-Ok : goal.returns-in-Ok

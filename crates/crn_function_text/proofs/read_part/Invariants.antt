@@ -1,9 +1,9 @@
 use Rattle.std.proofs.Common.{◌≡◌, drop}
-use Rattle.crn_token.specs.Plain.{plain_lines}
+use Rattle.crn_token.specs.Plain.{plain_lines, line_number, end_of}
 use Rattle.crn_grammar.specs.Part.{part_answer}
-use Rattle.crn_function_text.specs.Grammar.{function_table, goes_on, line_number, end_of, function_part}
+use Rattle.crn_function_text.specs.Grammar.{function_table, goes_on, function_part}
 use Rattle.crn_function_text.specs.Reading.{shown, IsKept}
-use Rattle.crn_function_text.proofs.read_function_lines.Given as goal
+use Rattle.crn_function_text.proofs.read_part.Given as goal
 
 abbrev pub invariant-loop-index : goal.invariant-loop-index
 invariant-loop-index l = record {

@@ -4,8 +4,8 @@ use Rattle.std.specs.Option.{option_map, option_and_then}
 use Rattle.crn_grammar.specs.Table.{Table, IsText, PassesNone}
 use Rattle.crn_grammar.specs.Part.{Either, Part, After}
 use Rattle.crn_grammar.proofs.TableLaws.{Keeps, kept_to_the_end}
-use Rattle.crn_net_text.proofs.Found.{then_found, map_found}
-use Rattle.crn_job.specs.Followed.{Following, following_start, following_next, followed_table}
+use Rattle.crn_token.proofs.Options.{then_found, map_found}
+use Rattle.crn_grammar.specs.Followed.{Following, following_start, following_next, followed_table}
 
 module _ {S R L F V G W : Type 0} (table : Table S L F W) (goes_on : S → L → Bool) (rest : F → Table R L V W) (value : F → V → G) (OfPart : S → Type 0) (OfValue : F → Type 0) (OfRest : F → R → Type 0) where
   abbrev text : Table (Either S (Following F R)) L G W

@@ -1,11 +1,15 @@
 -- The answer to a text that begins with a part, by the answers to the part and to what follows it, and that each place of it can end.
 use Rattle.std.proofs.Common.{◌≡◌, ℕ, Bool, true, false, cond, List, [], ◌∷◌, ◌++◌, Option, Some, None, refl, ◌∙◌, ap, subst}
 use Rattle.std.specs.Option.{option_map, option_and_then, option_map_or}
+use Rattle.crn_token.specs.declared.Counted.{Counted}
+use Rattle.crn_grammar.specs.declared.error.TextError.{TextError}
+use Rattle.crn_grammar.specs.declared.error.TextError.TheVariants as error
+use Rattle.crn_grammar.specs.Reading.{Refuses, RefusesPart}
 use Rattle.crn_grammar.specs.Table.{Table, Answer, Read, Malformed, Limited, answer, after, CanEnd}
-use Rattle.crn_grammar.specs.Part.{Either, Part, After, PartAnswer, Ends, Wrong, Past, part_answer, go_on}
+use Rattle.crn_grammar.specs.Part.{Either, Part, After, PartAnswer, Ends, Wrong, Past, part_answer, Leaves, go_on}
 use Rattle.crn_grammar.proofs.TableLaws.{can_end, after_then}
 use Rattle.crn_grammar.proofs.PartLaws.{answer_parts}
-use Rattle.crn_job.specs.Followed.{Following, following_start, following_next, following_whole, following_limit, followed_table, answer_map}
+use Rattle.crn_grammar.specs.Followed.{Following, following_start, following_next, following_whole, following_limit, followed_table, answer_map}
 
 -- ---- the answer
 module _ {S R L F V G W : Type 0} (table : Table S L F W) (goes_on : S → L → Bool) (rest : F → Table R L V W) (value : F → V → G) (number : L → ℕ) (end : ℕ) where
@@ -65,15 +69,23 @@ module _ {S R L F V G W : Type 0} (table : Table S L F W) (goes_on : S → L →
       answer_parts table goes_on (following_start rest) (following_next rest) (following_whole rest value) (following_limit rest) number end s lines
       ∙ on_is (part_answer table goes_on number end s lines)
 
+-- a refusal of what an answer belongs to
+pub refused_with : {V G : Type 0} (value : V → G) (e : TextError) (a : Answer V (Counted × ℕ)) → Refuses e a → Refuses e (answer_map value a)
+refused_with value (error.Malformed n) a is = ap (answer_map value) is
+refused_with value (error.Limit what count) a is = ap (answer_map value) is
+refused_with value error.Memory a is = tt
+
+-- a refusal of the part is one of the text
+module _ {S R L F V G : Type 0} (table : Table S L F (Counted × ℕ)) (goes_on : S → L → Bool) (rest : F → Table R L V (Counted × ℕ)) (value : F → V → G) (number : L → ℕ) (end : ℕ) where
+  pub followed_refused : (e : TextError) (part : PartAnswer L F (Counted × ℕ)) → RefusesPart e part → Refuses e (followed_on table goes_on rest value number end part)
+  followed_refused (error.Malformed n) part is = ap (followed_on table goes_on rest value number end) is
+  followed_refused (error.Limit what count) part is = ap (followed_on table goes_on rest value number end) is
+  followed_refused error.Memory part is = tt
+
 -- ---- each place can end
 -- some lines more lead to the end of a text
 abbrev pub Stops : {S L F W : Type 0} → Table S L F W → S → Type 0
 Stops {S} {L} {F} table s = (more : List L) × (t : S) × (f : F) × (after table s more ≡ Some t) × (table.whole t ≡ Some f)
-
--- the first line, if there is one, ends the part
-abbrev pub Leaves : {S L : Type 0} → (S → L → Bool) → S → List L → Type 0
-Leaves goes_on s [] = Unit {0}
-Leaves goes_on s (line ∷ lines) = goes_on s line ≡ false
 
 module _ {S R L F V G W : Type 0} (table : Table S L F W) (goes_on : S → L → Bool) (rest : F → Table R L V W) (value : F → V → G) where
   abbrev text : Table (Either S (Following F R)) L G W
