@@ -1,5 +1,5 @@
 -- The networks of functions within their limits.
-use Rattle.std.proofs.Common.{◌≡◌, ℕ, cond, ◌+◌, ◌<◌, ◌≤◌, List, [], ◌∷◌, ◌++◌, length, refl, sym, ap, ◌∙◌, subst, arith}
+use Rattle.std.proofs.Common.{◌≡◌, ℕ, cond, ◌+◌, ◌<◌, ◌≤◌, ◌^◌, List, [], ◌∷◌, ◌++◌, length, refl, sym, ap, ◌∙◌, subst, arith}
 use Rattle.std.specs.Prelude.{pos, Some}
 use Rattle.std.specs.List.{All}
 use Rattle.std.proofs.lemmas.List.Elements.{All-head}
@@ -15,6 +15,12 @@ use Rattle.crn_dual.proofs.Sizes as dual_sizes
 use Rattle.crn_direct.specs.Layout.{column_count, direct_layout}
 use Rattle.crn_direct.proofs.LayoutLaws as direct
 use Rattle.crn_direct.proofs.Sizes as direct_sizes
+use Rattle.crn_net.specs.Limits.{IsValid}
+use Rattle.crn_net.specs.Reactions.{EachCountOn}
+use Rattle.crn_net.proofs.Ends.{some_species}
+use Rattle.crn_formula.specs.Numbers.{HasKindFracs}
+use Rattle.crn_dual.proofs.Counts.{layout_counts}
+use Rattle.crn_direct.proofs.Counts.{direct_counts}
 use Rattle.crn_compile.specs.Networks.{network_of, ComputesFunction}
 
 -- ---- formulas
@@ -56,37 +62,46 @@ least_computes k forms xs fit amounts =
 
 -- what is proved of the network of a function
 record IsGood (k : ℕ) (kind : Kind) (net : Network) : Type 0 where
-  is_network : IsNetwork net
+  is_valid : IsValid net
   feeds_forward : IsFeedForward net
-  few_species : net.species ≤ 65536
   computes : ComputesFunction net k kind
+
+-- a network of few species, with no more reactions and the inputs of a function, can be made
+valid_of : (k : ℕ) (net : Network) → 1 ≤ k → k ≤ 8 → IsNetwork net → length net.reactions ≤ net.species → net.species ≤ 65536 → length net.inputs ≡ k → IsValid net
+valid_of k net some few ok reactions species inputs = record {
+  network = ok;
+  limits = record {
+    some_species = some_species net.rails net.species net.output ok.output;
+    few_species = species;
+    few_reactions = omega (arith, reactions, species);
+    some_input = omega (arith, some, inputs);
+    few_inputs = omega (arith, few, inputs);
+  };
+}
 
 good : (k : ℕ) (kind : Kind) (net : Network) → IsFitting k kind → network_of k kind ≡ Some net → IsGood k kind net
 good k (ByFormula e) net fit is =
     let same : layout k e ≡ net = cc in
     subst (IsGood k (ByFormula e)) same (record {
-      is_network = dual.layout_is_network k e (dual.fitting_over k e fit);
+      is_valid = valid_of k (layout k e) fit.some fit.few (dual.layout_is_network k e (dual.fitting_over k e fit)) (dual.layout_few_reactions k e (dual.fitting_over k e fit)) (few_of_formula k e fit) (dual.layout_inputs k e);
       feeds_forward = dual.layout_feeds_forward k e (dual.fitting_over k e fit);
-      few_species = few_of_formula k e fit;
       computes = λ xs amounts. formula_computes k e xs fit amounts;
     })
 good k (ByPieces pieces) net fit is = absurd (cc)
 good k (ByLeast forms) net fit is =
     let same : direct_layout k forms ≡ net = cc in
     subst (IsGood k (ByLeast forms)) same (record {
-      is_network = direct.layout_is_network k forms fit.limits.0.some (forms_over k forms fit) fit.limits.0.nonnegative;
+      is_valid = valid_of k (direct_layout k forms) fit.some fit.few
+          (direct.layout_is_network k forms fit.limits.0.some (forms_over k forms fit) fit.limits.0.nonnegative)
+          (direct.layout_few_reactions k forms fit.limits.0.some (forms_over k forms fit) fit.limits.0.nonnegative)
+          (omega (arith, direct_sizes.few_species k forms fit.few (forms_over k forms fit), fit.limits.0.few)) (direct.layout_inputs k forms);
       feeds_forward = direct.layout_feeds_forward k forms fit.limits.0.some (forms_over k forms fit) fit.limits.0.nonnegative;
-      few_species = omega (arith, direct_sizes.few_species k forms fit.few (forms_over k forms fit), fit.limits.0.few);
       computes = λ xs amounts. least_computes k forms xs fit amounts;
     })
 
--- it is a network
-pub is_network : (k : ℕ) (kind : Kind) (net : Network) → IsFitting k kind → network_of k kind ≡ Some net → IsNetwork net
-is_network k kind net fit is = (good k kind net fit is).is_network
-
--- of few species
-pub few_species : (k : ℕ) (kind : Kind) (net : Network) → IsFitting k kind → network_of k kind ≡ Some net → net.species ≤ 65536
-few_species k kind net fit is = (good k kind net fit is).few_species
+-- it is a network that can be made
+pub is_valid : (k : ℕ) (kind : Kind) (net : Network) → IsFitting k kind → network_of k kind ≡ Some net → IsValid net
+is_valid k kind net fit is = (good k kind net fit is).is_valid
 
 -- that feeds forward
 pub feeds_forward : (k : ℕ) (kind : Kind) (net : Network) → IsFitting k kind → network_of k kind ≡ Some net → IsFeedForward net
@@ -95,6 +110,12 @@ feeds_forward k kind net fit is = (good k kind net fit is).feeds_forward
 -- and stably computes the function
 pub computes : (k : ℕ) (kind : Kind) (net : Network) → IsFitting k kind → network_of k kind ≡ Some net → ComputesFunction net k kind
 computes k kind net fit is = (good k kind net fit is).computes
+
+-- no count in it is above the greatest number of a function
+pub small_counts : (P : ℕ → Type 0) → ((n : ℕ) → n < 2 ^ 63 → P n) → (k : ℕ) (kind : Kind) (net : Network) → HasKindFracs kind → network_of k kind ≡ Some net → EachCountOn P net.reactions
+small_counts P small k (ByFormula e) net fracs is = let same : layout k e ≡ net = cc in subst (λ n. EachCountOn P n.reactions) same (layout_counts P small k e fracs)
+small_counts P small k (ByPieces pieces) net fracs is = absurd (cc)
+small_counts P small k (ByLeast forms) net fracs is = let same : direct_layout k forms ≡ net = cc in subst (λ n. EachCountOn P n.reactions) same (direct_counts P small k forms fracs)
 
 -- ---- what the compilers answer
 

@@ -10,6 +10,8 @@ use Rattle.crn_net.proofs.Completion.{completion_runs, completion_exhausts}
 use Rattle.crn_net.proofs.FeedForward.{feed_forward, not_taken, untaken}
 use Rattle.crn_net.proofs.Start.{amount-start, start_not_negative, pick_yes, pick_no}
 use Rattle.crn_linear.specs.Forms.{at}
+use Rattle.crn_net.proofs.FewReactions.{few_reactions}
+use Rattle.crn_gates.proofs.Drafting.{length-inputs_after}
 use Rattle.crn_gates.proofs.Chain.{goes_to_end}
 use Rattle.crn_gates.proofs.Drafting.{draft_is_network, direct_past}
 use Rattle.crn_gates.proofs.FanLaws.{fanned_sound}
@@ -92,6 +94,10 @@ length-inputs_direct n (suc k) = ap suc (length-inputs_direct (suc n) k)
 pub length-inputs : (k : ℕ) (forms : List (List ℚ)) → length (input_species (direct_layout k forms).inputs) ≡ k
 length-inputs k forms = length-inputs_direct 0 k
 
+-- and an input for each variable
+pub layout_inputs : (k : ℕ) (forms : List (List ℚ)) → length (direct_layout k forms).inputs ≡ k
+layout_inputs k forms = length-inputs_after Direct 0 k
+
 -- ---- the theorems
 
 module _ (k : ℕ) (forms : List (List ℚ)) (some : 1 ≤ length forms) (long : All (λ g. length g ≡ k) forms) (nonnegative : All (All (λ c. 0ℚ ≤ℚ c)) forms) where
@@ -106,6 +112,14 @@ module _ (k : ℕ) (forms : List (List ℚ)) (some : 1 ≤ length forms) (long :
   pub layout_is_network : IsNetwork (direct_layout k forms)
   unfolding draft
   layout_is_network = draft_is_network draft (One (laid_out k forms).rail) makes.sound makes.room (makes.free.low, makes.free.high)
+
+  -- with no more reactions than species
+  pub layout_few_reactions : length (direct_layout k forms).reactions ≤ (direct_layout k forms).species
+  layout_few_reactions = few_reactions (laid_out k forms).built.species (laid_out k forms).built.reactions makes.sound.feeds makes.sound.each
+
+  -- room for its inputs
+  pub layout_room : k ≤ (direct_layout k forms).species
+  layout_room = makes.room
 
   -- it feeds forward
   pub layout_feeds_forward : IsFeedForward (direct_layout k forms)

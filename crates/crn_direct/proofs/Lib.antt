@@ -4,3 +4,4 @@ pub mod LayoutLaws
 pub mod Sizes
 pub mod Loops
 pub mod Compiling
+pub mod Counts

@@ -14,6 +14,8 @@ use Rattle.crn_net.specs.Totals.{made_by}
 use Rattle.crn_net.proofs.Computes.{computes_made}
 use Rattle.crn_net.proofs.FeedForward.{feed_forward, are_reactions, untaken, not_taken}
 use Rattle.crn_net.proofs.Start.{amount-start, amount-start-past, amount-context, pick_yes, pick_no, start_not_negative}
+use Rattle.crn_net.proofs.FewReactions.{few_reactions}
+use Rattle.crn_gates.proofs.Drafting.{length-inputs_after}
 use Rattle.crn_gates.specs.FanOut.{fanned}
 use Rattle.crn_gates.proofs.FanLaws.{fans_make, fans_feed, fans_given, fans_taken, fans_each}
 use Rattle.crn_gates.specs.Pairs.{AreUses}
@@ -267,6 +269,12 @@ layout_with_is k context e over =
       feed_forward net l.feeds,
     )
 
+-- with no more reactions than species
+layout_with_few : (k : ℕ) (context : Bool) (e : Formula) → IsOver (columns_over k context) e → length (layout_with k context e).reactions ≤ (layout_with k context e).species
+layout_with_few k context e over =
+    let l = laid k context e over (replicate (k + k) 0ℚ) (length-replicate (k + k) 0ℚ) in
+    few_reactions (layout_with k context e).species (layout_with k context e).reactions l.feeds l.each
+
 -- from every start
 layout_with_computes : (k : ℕ) (context : Bool) (e : Formula) → IsOver (columns_over k context) e → (xs : List ℚ) → AreAmounts (layout_with k context e) xs →
     StablyComputes (layout_with k context e) xs (formula_value e (point context (differences xs)))
@@ -326,6 +334,14 @@ layout_is_network k e o = (layout_with_is k (has_context k e) e (over_columns k 
 -- it feeds forward
 pub layout_feeds_forward : (k : ℕ) (e : Formula) → IsOverVariables k e → IsFeedForward (layout k e)
 layout_feeds_forward k e o = (layout_with_is k (has_context k e) e (over_columns k e o)).1
+
+-- it has no more reactions than species
+pub layout_few_reactions : (k : ℕ) (e : Formula) → IsOverVariables k e → length (layout k e).reactions ≤ (layout k e).species
+layout_few_reactions k e o = layout_with_few k (has_context k e) e (over_columns k e o)
+
+-- and an input for each variable
+pub layout_inputs : (k : ℕ) (e : Formula) → length (layout k e).inputs ≡ k
+layout_inputs k e = length-inputs_after Dual 0 k
 
 -- it stably computes the formula's value
 pub layout_computes : (k : ℕ) (e : Formula) → IsOverVariables k e → (xs : List ℚ) → AreAmounts (layout k e) xs → StablyComputes (layout k e) xs (value_over k e (differences xs))

@@ -7,3 +7,4 @@ pub mod Agreeing
 pub mod Loops
 pub mod Compiling
 pub mod Sizes
+pub mod Counts

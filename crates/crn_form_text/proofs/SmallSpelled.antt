@@ -65,8 +65,8 @@ terms_fit k (t ∷ terms) column small =
 
 -- entries that fit
 fracs_of : (n : ℕ) (form : List ℚ) → ((i : ℕ) → i < n → IsFrac (entry_of form i)) → AreFracs (take n form)
-fracs_of n [] each = tt
-fracs_of zero (q ∷ qs) each = tt
+fracs_of zero form each = tt
+fracs_of (suc n) [] each = tt
 fracs_of (suc n) (q ∷ qs) each = (each 0 (omega arith), fracs_of n qs (λ i low. each (suc i) (omega (arith, low))))
 
 form_fits : (k : ℕ) (form : List ℚ) (terms : List Signed) → AreTermsOf k form terms → AreSmall (form_tokens terms) → AreFracsOf k form

@@ -8,6 +8,7 @@ use Rattle.crn_fraction.specs.Frac.{IsFrac}
 use Rattle.crn_linear.specs.Forms.{entry_of}
 use Rattle.crn_formula.specs.Formulas.{Formula, Lin, Add, Sub, Scale, Min, Max}
 use Rattle.crn_form_text.specs.Grammar.{Numeral, Whole, Over, numeral_tokens, Variable, Multiple, Constant, term_tokens, Signed, minus_before}
+pub use Rattle.crn_linear.specs.Fracs.{AreFracs}
 
 -- the size of a number in lowest terms, and whether it is below 0
 abbrev pub numeral_of : ℚ → Numeral
@@ -107,11 +108,6 @@ HasColumnsFor k (Sub a b) = HasColumnsFor k a × HasColumnsFor k b
 HasColumnsFor k (Scale q a) = HasColumnsFor k a
 HasColumnsFor k (Min a b) = HasColumnsFor k a × HasColumnsFor k b
 HasColumnsFor k (Max a b) = HasColumnsFor k a × HasColumnsFor k b
-
--- each number is a fraction that fits
-abbrev pub AreFracs : List ℚ → Type 0
-AreFracs [] = Unit {0}
-AreFracs (q ∷ qs) = IsFrac q × AreFracs qs
 
 -- the numbers of a form over k variables are fractions that fit
 abbrev pub AreFracsOf : ℕ → List ℚ → Type 0

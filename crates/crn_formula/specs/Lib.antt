@@ -4,3 +4,4 @@ pub mod Functions
 pub mod Domains
 pub mod Views
 pub mod Answers
+pub mod Numbers

@@ -1,6 +1,6 @@
 -- The numbers of a function that a text gives are fractions that fit.
-use Rattle.std.proofs.Common.{◌≡◌, ℕ, suc, ◌+◌, ◌-◌, ◌≤◌, Bool, true, false, cond, List, [], ◌∷◌, ◌++◌, length, take, drop, map, Option, Some, None, refl, sym, ap, ◌∙◌, subst}
-use Rattle.std.proofs.lemmas.List.Elements.{All-nil, All-push, All-map, All-weaker}
+use Rattle.std.proofs.Common.{◌≡◌, ℕ, zero, suc, ◌+◌, ◌-◌, ◌≤◌, Bool, true, false, cond, List, [], ◌∷◌, ◌++◌, length, take, drop, map, Option, Some, None, refl, sym, ap, ◌∙◌, subst, arith}
+use Rattle.std.proofs.lemmas.List.Elements.{All-nil, All-cons, All-head, All-tail, All-push, All-map, All-weaker}
 use Rattle.std.specs.Prelude.{All, pos}
 use Rattle.std.specs.List.{list_any}
 use Rattle.std.specs.Option.{option_map}
@@ -11,7 +11,10 @@ use Rattle.crn_token.proofs.SmallNumbers.{small_take, small_drop, lines_small}
 use Rattle.crn_grammar.specs.Table.{IsText, PassesNone}
 use Rattle.crn_grammar.proofs.TableLaws.{EachLine, kept_where}
 use Rattle.crn_formula.specs.Pieces.{Piece}
-use Rattle.crn_formula.specs.Functions.{ByFormula, ByPieces, ByLeast, piece_has_constant}
+use Rattle.crn_formula.specs.Formulas.{Formula, Lin, Add, Sub, Scale, Min, Max, IsOver}
+use Rattle.crn_formula.specs.Functions.{Kind, ByFormula, ByPieces, ByLeast, IsPieceOver, IsKindOver, columns, is_affine, piece_has_constant}
+use Rattle.crn_formula.specs.Numbers.{HasFracs, HasPieceFracs, HasKindFracs}
+use Rattle.crn_linear.specs.Fracs.{AreFracs, AreFormFracs}
 use Rattle.crn_form_text.specs.Built.{fitted}
 use Rattle.crn_form_text.specs.Reading.{form_of}
 use Rattle.crn_form_text.specs.Printing.{AreFracsOf, FitsText}
@@ -29,7 +32,7 @@ use Rattle.crn_function_text.specs.Printing.{ArePieceFracs, AreKindFracs}
 use Rattle.crn_function_text.specs.Reading.{IsKept}
 use Rattle.crn_form_text.proofs.FormSpells.{form_spelled}
 use Rattle.crn_function_text.proofs.Spelled.{formula_spelled, all_found}
-use Rattle.crn_function_text.proofs.Kept.{kept_next, some_function, all_before, all_last}
+use Rattle.crn_function_text.proofs.Kept.{kept_next, some_function, all_before, all_last, text_fits}
 
 -- the numbers of a place are fractions that fit
 abbrev AreFitting : Place → Type 0
@@ -137,7 +140,56 @@ each_small : (lines : List PlainLine) → AreSmallLines lines → EachLine funct
 each_small [] small = tt
 each_small (line ∷ lines) small = (small.0, each_small lines small.1)
 
-pub text_fracs : (bytes : List ℕ) (f : PlainFunction) → IsText function_table (plain_lines bytes) f → PassesNone function_table (plain_lines bytes) → AreKindFracs f.variables f.kind
-text_fracs bytes f text low =
+pub text_kind_fracs : (bytes : List ℕ) (f : PlainFunction) → IsText function_table (plain_lines bytes) f → PassesNone function_table (plain_lines bytes) → AreKindFracs f.variables f.kind
+text_kind_fracs bytes f text low =
     let (s, both, is) = kept_where function_table (λ line. AreSmall line.tokens) IsBoth (tt, tt) both_next (plain_lines bytes) f (each_small (plain_lines bytes) (lines_small bytes)) text low in
     whole_fracs s f both.1 is
+
+-- ---- all its numbers
+
+-- the entries in the columns of the variables and of the constant are all that a form has
+all_fracs : (k : ℕ) (form : List ℚ) → length form ≤ k + 1 → AreFracsOf k form → AreFracs form
+all_fracs k [] short fits = tt
+all_fracs zero (q ∷ []) short fits = (fits.1, tt)
+all_fracs zero (q ∷ p ∷ form) short fits = absurd (omega (arith, short))
+all_fracs (suc k) (q ∷ form) short fits = (fits.0.0, all_fracs k form (omega (arith, short)) (fits.0.1, fits.1))
+
+formula_fracs : (k n : ℕ) (e : Formula) → n ≤ k + 1 → IsOver n e → FitsText k e → HasFracs e
+formula_fracs k n (Lin form) few over fits = all_fracs k form (omega (arith, few, over)) fits.1
+formula_fracs k n (Add a b) few over fits = (formula_fracs k n a few over.0 fits.0, formula_fracs k n b few over.1 fits.1)
+formula_fracs k n (Sub a b) few over fits = (formula_fracs k n a few over.0 fits.0, formula_fracs k n b few over.1 fits.1)
+formula_fracs k n (Scale q a) few over fits = (fits.0, formula_fracs k n a few over fits.1)
+formula_fracs k n (Min a b) few over fits = (formula_fracs k n a few over.0 fits.0, formula_fracs k n b few over.1 fits.1)
+formula_fracs k n (Max a b) few over fits = (formula_fracs k n a few over.0 fits.0, formula_fracs k n b few over.1 fits.1)
+
+forms_fracs : (k n : ℕ) (forms : List (List ℚ)) → n ≤ k + 1 → All (λ f. length f ≡ n) forms → All (AreFracsOf k) forms → AreFormFracs forms
+forms_fracs k n [] few long fits = tt
+forms_fracs k n (form ∷ forms) few long fits =
+    let same : length form ≡ n = All-head (λ f. length f ≡ n) form forms long in (
+      all_fracs k form (omega (arith, few, same)) (All-head (AreFracsOf k) form forms fits),
+      forms_fracs k n forms few (All-tail (λ f. length f ≡ n) form forms long) (All-tail (AreFracsOf k) form forms fits),
+    )
+
+pieces_fracs : (k n : ℕ) (ps : List Piece) → n ≤ k + 1 → All (IsPieceOver n) ps → All (ArePieceFracs k) ps → All HasPieceFracs ps
+pieces_fracs k n [] few over fits = All-nil HasPieceFracs
+pieces_fracs k n (p ∷ ps) few over fits =
+    let here = All-head (IsPieceOver n) p ps over in
+    let fit = All-head (ArePieceFracs k) p ps fits in
+    All-cons HasPieceFracs p ps (all_fracs k p.form (omega (arith, few, here.form)) fit.0, forms_fracs k n p.conditions few here.conditions fit.1)
+    (pieces_fracs k n ps few (All-tail (IsPieceOver n) p ps over) (All-tail (ArePieceFracs k) p ps fits))
+
+few_columns : (k : ℕ) (kind : Kind) → columns k kind ≤ k + 1
+few_columns k kind = go (is_affine k kind)
+  where
+    go : (b : Bool) → cond b (k + 1) k ≤ k + 1
+    go true = omega arith
+    go false = omega arith
+
+kind_fracs : (k n : ℕ) (kind : Kind) → n ≤ k + 1 → IsKindOver n kind → AreKindFracs k kind → HasKindFracs kind
+kind_fracs k n (ByFormula e) few over fits = formula_fracs k n e few over fits
+kind_fracs k n (ByPieces ps) few over fits = pieces_fracs k n ps few over fits
+kind_fracs k n (ByLeast forms) few over fits = forms_fracs k n forms few over fits
+
+pub text_fracs : (bytes : List ℕ) (f : PlainFunction) → IsText function_table (plain_lines bytes) f → PassesNone function_table (plain_lines bytes) → HasKindFracs f.kind
+text_fracs bytes f text low =
+    kind_fracs f.variables (columns f.variables f.kind) f.kind (few_columns f.variables f.kind) (text_fits (plain_lines bytes) f text low).forms (text_kind_fracs bytes f text low)

@@ -6,6 +6,7 @@ ghost use Rattle.crn_token.specs.Printed.{lines_read};
 ghost use Rattle.crn_grammar.specs.Table.{CanEnd, IsText, PassesNone};
 ghost use Rattle.crn_formula.specs.Formulas.{Formula, node_count, depth_of};
 ghost use Rattle.crn_formula.specs.Functions.{IsFitting};
+ghost use Rattle.crn_formula.specs.Numbers.{HasKindFracs};
 ghost use Rattle.crn_form_text.specs.Grammar.{SpellsForm, SpellsPlain, SpellsFormula};
 ghost use Rattle.crn_form_text.specs.Reading.{form_of};
 ghost use Rattle.crn_function_text.specs.Grammar.{PlainFunction, function_table, plain_form_of};
@@ -28,9 +29,12 @@ pub fn places_can_end()
     ensures { CanEnd function_table }
 {}
 
-/// The function of a text that passes no limit keeps the rule of functions. So these are the functions that texts within the limits give, since each is printed.
+/// The function of a text that passes no limit keeps the rule of functions, and its numbers are fractions that fit. So it can be printed, and these are the functions that texts within the
+/// limits give.
 pub fn texts_keep_the_rule()
-    ensures { (lines : List PlainLine) (f : PlainFunction) → IsText function_table lines f → PassesNone function_table lines → IsFitting f.variables f.kind }
+    ensures rule { (lines : List PlainLine) (f : PlainFunction) → IsText function_table lines f → PassesNone function_table lines → IsFitting f.variables f.kind }
+    ensures printed { (bytes : List ℕ) (f : PlainFunction) → IsText function_table (plain_lines bytes) f → PassesNone function_table (plain_lines bytes) → AreKindFracs f.variables f.kind }
+    ensures numbers { (bytes : List ℕ) (f : PlainFunction) → IsText function_table (plain_lines bytes) f → PassesNone function_table (plain_lines bytes) → HasKindFracs f.kind }
 {}
 
 /// The printed lines of a function are a text of it and pass no limit, and the bytes read as these lines.

@@ -17,3 +17,4 @@ pub mod FanCalls
 pub mod Drafting
 pub mod RailCalls
 pub mod FreeRails
+pub mod Counts

@@ -5,7 +5,8 @@ use Rattle.std.specs.Bool.{MatchBool}
 use Rattle.std.specs.Option.{option_and_then, option_map_or}
 use Rattle.crn_grammar.specs.Table.{Table, IsTooShort, IsFirstPast, after, IsText, Begins, PassesNone, CanEnd}
 use Rattle.crn_grammar.specs.Part.{PartAnswer, Ends, Wrong, Past, part_end, part_answer, AllGoOn, Leaves, IsPart, IsFirstWrongInPart, IsPartAnswer}
-use Rattle.crn_grammar.proofs.TableLaws.{some_alike, none_some, after_more, begins_here, wrong_here, none_past, none_past_more, leads, begun}
+use Rattle.crn_token.proofs.Options.{some_alike}
+use Rattle.crn_grammar.proofs.TableLaws.{none_some, after_more, begins_here, wrong_here, none_past, none_past_more, leads, begun}
 
 -- ---- lines that go on
 module _ {S L F W : Type 0} (table : Table S L F W) (goes_on : S → L → Bool) where

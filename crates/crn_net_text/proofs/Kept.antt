@@ -27,6 +27,7 @@ use Rattle.crn_net_text.specs.Reading.{AreNamed, IsFramed, IsFine, AreFew, IsLow
 use Rattle.crn_net_text.proofs.Found.{both, ends_found, one_found, reaction_found}
 use Rattle.crn_token.proofs.Options.{some_alike, then_found, map_found, if_found, else_found}
 use Rattle.crn_net_text.proofs.Left.{left_here, left}
+use Rattle.crn_net.proofs.Ends.{some_species}
 
 -- ---- names
 or_false : (x y : Bool) → (x || y) ≡ false → (x ≡ false) × (y ≡ false)
@@ -287,12 +288,6 @@ ends_titled rails two =
     let n = least rails two in
     ends_after (Titled rails two) (Naming rails two n []) (PlainWord (codes "species") ∷ PlainNumber (pos n) ∷ [])
     (ap (λ b. cond b (Some (Naming rails two n [])) None) (le-leb n n (omega arith))) (ends_naming rails two n [] (omega arith) (none_named two n (some_least rails two)))
-
-some_species : (rails : Rails) (n : ℕ) (e : Ends) → IsEnds rails n e → 1 ≤ n
-some_species Dual n (Pair a b) is = omega (arith, is.0, is.1)
-some_species Dual n (One a) is = absurd is
-some_species Direct n (Pair a b) is = absurd is
-some_species Direct n (One a) is = omega (arith, is.0, is.1)
 
 ends : (s : Place) → IsFine s → CanStop s
 ends Start fine = ends_after Start (Titled Direct false) (PlainWord (codes "crn") ∷ PlainNumber (pos 1) ∷ PlainWord (codes "direct") ∷ []) refl (ends_titled Direct false)

@@ -34,7 +34,7 @@ use Rattle.crn_completer.specs.declared.CompletionTooBig.{CompletionTooBig}
 use Rattle.crn_dual.specs.Layout.{layout}
 use Rattle.crn_direct.specs.Layout.{direct_layout}
 use Rattle.crn_compile.specs.Networks.{network_of}
-use Rattle.crn_compile.proofs.NetworkLaws.{is_network, feeds_forward, computes}
+use Rattle.crn_compile.proofs.NetworkLaws.{is_valid, feeds_forward, computes}
 use Rattle.crn_job.specs.Fitting.{IsFittingJob, IsFittingRunJob}
 use Rattle.crn_job.specs.Grammar.{PlainJob, job_table}
 use Rattle.crn_job.specs.RunGrammar.{PlainRunJob, run_table}
@@ -144,7 +144,7 @@ comes_of_job job fit = go (kinds job.function.variables job.function.kind)
         let (k, kind) = (job.function.variables, job.function.kind) in
         let amounts = job_amounts net job.function job.amounts is fit.long fit.not_negative in
         let (value, value_is, stably) = computes_value net job.function job.amounts (computes k kind net fit.function is) amounts in
-        let (o, found) = comes_of_segments net value job.amounts job.segments (is_network k kind net fit.function is) (feeds_forward k kind net fit.function is) amounts stably fit.segments in
+        let (o, found) = comes_of_segments net value job.amounts job.segments (is_valid k kind net fit.function is).network (feeds_forward k kind net fit.function is) amounts stably fit.segments in
         (o, found_of_job job net value o is value_is found)
 
 comes_of_run : (job : PlainRunJob) → IsFittingRunJob job → (o : Outcome) × IsFoundOfRunJob job o
@@ -217,7 +217,7 @@ comes_of_bulk n some few =
     let fit = bulk_fits n some few in
     let amounts = job_amounts net f job.amounts is (bulk_amounts_long n) (bulk_amounts_not_negative n) in
     let (value, value_is, stably) = computes_value net f job.amounts (computes f.variables f.kind net fit is) amounts in
-    let (o, found) = go net value job.amounts (is_network f.variables f.kind net fit is) (feeds_forward f.variables f.kind net fit is) amounts stably (halves_refusal net (bulk_number n) (start net job.amounts)) refl in
+    let (o, found) = go net value job.amounts (is_valid f.variables f.kind net fit is).network (feeds_forward f.variables f.kind net fit is) amounts stably (halves_refusal net (bulk_number n) (start net job.amounts)) refl in
     (o, net, value, is, value_is, found)
   where
     go : (net : Network) (value : ℚ) (xs : List ℚ) → IsNetwork net → IsFeedForward net → AreAmounts net xs → StablyComputes net xs value

@@ -24,6 +24,11 @@ pub fn one_answer()
     ensures { (words : List (List ℕ)) (bytes : List ℕ) (s t : Status) (text other : List ℕ) → Answers words bytes s text → Answers words bytes t other → (s ≡ t) × (text ≡ other) }
 {}
 
+/// And there is one: every list of words and every list of bytes has an answer, whatever they are.
+pub fn some_answer()
+    ensures { (words : List (List ℕ)) (bytes : List ℕ) → (s : Status) × (text : List ℕ) × Answers words bytes s text }
+{}
+
 /// The network that `compile` prints of a function is the one in which `complete` runs a job of it, so the numbers of species and reactions agree.
 pub fn one_network()
     ensures { (job : PlainJob) (net on : Network) (c : List ℚ) → IsFoundOfFunction job.function (Compiled net) → IsFoundOfJob job (Completed on c) → on ≡ net }

@@ -24,13 +24,13 @@ small_back [] ys all = all
 small_back (x ∷ xs) ys all = small_back xs ys all.1
 
 pub small_take : (n : ℕ) (xs : List Plain) → AreSmall xs → AreSmall (take n xs)
-small_take n [] all = tt
-small_take zero (x ∷ xs) all = tt
+small_take zero xs all = tt
+small_take (suc n) [] all = tt
 small_take (suc n) (x ∷ xs) all = (all.0, small_take n xs all.1)
 
 pub small_drop : (n : ℕ) (xs : List Plain) → AreSmall xs → AreSmall (drop n xs)
-small_drop n [] all = tt
-small_drop zero (x ∷ xs) all = all
+small_drop zero xs all = all
+small_drop (suc n) [] all = tt
 small_drop (suc n) (x ∷ xs) all = small_drop n xs all.1
 
 -- ---- a line
