@@ -3,3 +3,4 @@ pub mod Rows
 pub mod Cleared
 pub mod Views
 pub mod Strengths
+pub mod Equality
