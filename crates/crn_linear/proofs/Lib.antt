@@ -2,6 +2,7 @@ pub mod Padding
 pub mod Signs
 pub mod Sums
 pub mod Values
+pub mod Equality
 pub mod Denominators
 pub mod Units
 pub mod Wides

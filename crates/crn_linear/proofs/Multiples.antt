@@ -6,16 +6,14 @@ use Rattle.std.specs.Int.{◌∣◌}
 use Rattle.std.proofs.lemmas.Int.{ints, unsigned_abs-mul}
 use Rattle.std.proofs.lemmas.Nat.Gcd.{le_of_dvd}
 use Rattle.std.proofs.Math.Nat.{div-mul_cancel, mul-dvd-mul_left, dvd_of_mul-dvd-mul_right, pos_of_dvd_of_pos, div-one}
-use Rattle.crn_fraction.specs.Rational.{ℚ, whole, 0ℚ, ◌*ℚ◌, ◌/ℚ◌, ◌≤ℚ◌, ◌<ℚ◌, inverse_ℚ}
+use Rattle.crn_fraction.specs.Rational.{ℚ, whole, 0ℚ, ◌*ℚ◌, ◌/ℚ◌, ◌<ℚ◌, inverse_ℚ}
 use Rattle.crn_fraction.specs.Parts.{ratio_self, num-whole, den-whole}
 use Rattle.crn_fraction.proofs.Integers.{ring_ℤ, z-writes}
 use Rattle.crn_fraction.proofs.Core.{ratio_same}
 use Rattle.crn_fraction.proofs.Ratios.{over-whole-*ℚ}
-use Rattle.crn_fraction.proofs.Ring.{*ℚ-zero, zero-*ℚ}
-use Rattle.crn_fraction.proofs.Order.{≤ℚ_or_<ℚ, ≤ℚ_of_<ℚ}
-use Rattle.crn_fraction.proofs.Linear.{not_<ℚ, <ℚ_irrefl}
+use Rattle.crn_fraction.proofs.Ring.{zero-*ℚ}
 use Rattle.crn_fraction.proofs.Lowest.{dvd_other}
-use Rattle.crn_fraction.proofs.Products.{*ℚ-≤ℚ, *ℚ-/ℚ, /ℚ-is, *ℚ-/ℚ_assoc, whole_positive}
+use Rattle.crn_fraction.proofs.Products.{/ℚ-is, /ℚ-positive, *ℚ-/ℚ_assoc, whole_positive}
 use Rattle.crn_linear.specs.Forms.{entry_of, wholes}
 use Rattle.crn_linear.specs.Cleared.{IsMultiple, HaveNoDivisor, IsCleared, pivot, common_den, unit_of, numerator_over, numerators, cleared, size_ℚ}
 use Rattle.crn_linear.proofs.Denominators.{den-dvd-common_den, common_den-positive, common_den-least}
@@ -46,16 +44,6 @@ regrouped a p (x ∷ xs) = ap₂ (λ y ys. y ∷ ys) (*ℚ-/ℚ_assoc a x p) (re
 pub positive_by_num : (q : ℚ) → pos 0 <ℤ q.num → 0ℚ <ℚ q
 positive_by_num q h = record { lt = rw (num-whole (pos 0), den-whole (pos 0)) (omega (arith, ints)) }
 
--- and so is a quotient of two of them
-pub over_positive : (b k : ℚ) → 0ℚ <ℚ b → 0ℚ <ℚ k → 0ℚ <ℚ b /ℚ k
-over_positive b k h l =
-    let some : k ≢ 0ℚ = λ e. <ℚ_irrefl 0ℚ (subst (λ q. 0ℚ <ℚ q) e l) in
-    ⊎_elim (λ le.
-    let at_most : k *ℚ (b /ℚ k) ≤ℚ k *ℚ 0ℚ = *ℚ-≤ℚ k (b /ℚ k) 0ℚ (≤ℚ_of_<ℚ 0ℚ k l) le in
-    let below : b ≤ℚ 0ℚ = subst (λ q. q ≤ℚ 0ℚ) (*ℚ-/ℚ b k some) (subst (λ q. k *ℚ (b /ℚ k) ≤ℚ q) (*ℚ-zero k) at_most) in
-    absurd (not_<ℚ b 0ℚ below h))
-    (λ lt. lt) (≤ℚ_or_<ℚ (b /ℚ k) 0ℚ)
-
 -- the numerators are a positive multiple of the form
 pub cleared_multiple : (form : List ℚ) → IsMultiple form (numerators (unit_of form))
 cleared_multiple form =
@@ -63,7 +51,7 @@ cleared_multiple form =
     let m = common_den us in
     record {
       factor = whole (pos m) /ℚ pivot form;
-      positive = over_positive (whole (pos m)) (pivot form) (whole_positive m (common_den-positive us)) (positive_by_num (pivot form) (pivot_positive form));
+      positive = /ℚ-positive (whole (pos m)) (pivot form) (whole_positive m (common_den-positive us)) (positive_by_num (pivot form) (pivot_positive form));
       same = wholes_are m us (den-dvd-common_den us) ∙ regrouped (whole (pos m)) (pivot form) form;
     }
 

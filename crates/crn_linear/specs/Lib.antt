@@ -4,3 +4,4 @@ pub mod Cleared
 pub mod Views
 pub mod Strengths
 pub mod Fracs
+pub mod Equality

@@ -1,8 +1,9 @@
 //! What holds of every form, row and point. Each function here does nothing: its contract is a theorem about the definitions of `specs/`, proved with the crate.
-ghost use Rattle.std.specs.Prelude.{◌≡◌, ◌≢◌, ◌↔◌, ◌++◌, ℤ, pos, List, [], ◌∷◌, Contains};
+ghost use Rattle.std.specs.Prelude.{◌≡◌, ◌≢◌, ◌↔◌, ◌++◌, ℤ, pos, List, [], ◌∷◌, Contains, IsTrue};
 ghost use Rattle.std.specs.List.{AllPairs};
 ghost use Rattle.std.specs.Ordering.{int_cmp};
 ghost use Rattle.crn_fraction.specs.Rational.{ℚ, 0ℚ};
+ghost use Rattle.crn_linear.specs.Equality.{eq_forms, eq_points, eq_rows};
 ghost use Rattle.crn_linear.specs.Forms.{at, wholes, distinct_forms};
 ghost use Rattle.crn_linear.specs.Rows.{Row, dot, IsBelow, Meets, MeetsWhole};
 ghost use Rattle.crn_linear.specs.Cleared.{IsCleared, cleared};
@@ -34,4 +35,11 @@ pub fn first_appearances()
     ensures once { (forms : List (List ℚ)) → AllPairs (λ a b. a ≢ b) (distinct_forms forms) }
     ensures new { (forms : List (List ℚ)) (form : List ℚ) → (Contains forms form → ⊥) → distinct_forms (forms ++ form ∷ []) ≡ distinct_forms forms ++ form ∷ [] }
     ensures again { (forms : List (List ℚ)) (form : List ℚ) → Contains forms form → distinct_forms (forms ++ form ∷ []) ≡ distinct_forms forms }
+{}
+
+/// `==` says whether two forms, or two points, have the same entries, and whether two rows also ask the same.
+pub fn equality()
+    ensures forms { (a b : List ℚ) → IsTrue (eq_forms a b) ↔ (a ≡ b) }
+    ensures points { (a b : List ℤ) → IsTrue (eq_points a b) ↔ (a ≡ b) }
+    ensures rows { (a b : Row) → IsTrue (eq_rows a b) ↔ (a ≡ b) }
 {}
