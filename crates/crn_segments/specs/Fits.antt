@@ -19,10 +19,14 @@ abbrev pub SumFits : (ℕ → ℚ) → ℚ → List Flow → Type 0
 SumFits k a [] = Unit {0}
 SumFits k a (f ∷ fs) = IsFrac (k f.reaction *ℚ f.flux) × IsFrac (a +ℚ k f.reaction *ℚ f.flux) × SumFits k (a +ℚ k f.reaction *ℚ f.flux) fs
 
--- the step from c by the segment u fits: of each species the sum of its amount, and of the whole number given less taken times the flux for each reaction
--- that has it on a side
+-- in the step from c by the segment u the sum of species s fits: its amount, and the whole number given less taken times the flux for each reaction that has
+-- it on a side
+abbrev pub SpeciesFits : Network → List ℚ → List Flow → ℕ → Type 0
+SpeciesFits net c u s = SumFits (change net s) (amount c s) (flows_of net s u)
+
+-- the step fits: the sum of each species does
 abbrev pub StepFits : Network → List ℚ → List Flow → Type 0
-StepFits net c u = (s : ℕ) → 1 ≤ s → s ≤ net.species → SumFits (change net s) (amount c s) (flows_of net s u)
+StepFits net c u = (s : ℕ) → 1 ≤ s → s ≤ net.species → SpeciesFits net c u s
 
 -- of each reactant of reaction r the quotient of its amount by its count fits
 abbrev pub QuotientsFit : Network → ℕ → List ℚ → Type 0
