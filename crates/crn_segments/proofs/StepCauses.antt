@@ -1,5 +1,5 @@
 -- What refuses a step is its cause, and only that: flow by flow, and then species by species.
-use Rattle.std.proofs.Common.{◌≡◌, ◌≢◌, ℕ, zero, suc, ◌+◌, ◌<◌, ◌≤◌, ◌==◌, if◌then◌else◌, Bool, true, false, List, [], ◌∷◌, ◌++◌, length, Option, Some, None, refl, sym, ◌∙◌, ap, ap₂, subst, ◌⊎◌, inl, inr, ⊎_elim, arith, nat_lt}
+use Rattle.std.proofs.Common.{◌≡◌, ◌≢◌, ℕ, zero, suc, ◌+◌, ◌<◌, ◌≤◌, ◌==◌, if◌then◌else◌, Bool, true, false, List, [], ◌∷◌, ◌++◌, length, Option, Some, None, refl, sym, ◌∙◌, ap, ap₂, subst, ⊎_elim, arith, nat_lt}
 use Rattle.std.proofs.lemmas.List.Elements.{All-nil, All-cons, All-head, All-tail}
 use Rattle.std.specs.List.{All}
 use Rattle.std.specs.Option.{option_or, option_map}
@@ -14,7 +14,7 @@ use Rattle.crn_segments.proofs.Least.{first_in}
 use Rattle.crn_segments.proofs.Refusals.{flow_without_reaction, flow_with_reaction}
 use Rattle.crn_segments.proofs.Runs.{sum_there}
 use Rattle.crn_segments.proofs.SignLaws.{positive_is, not_positive_is, not_negative_is, negative_is, is_positive_ℚ_cases, is_negative_ℚ_cases}
-use Rattle.crn_segments.proofs.Steps.{above_or_not, flow_none, flows_exist, none_absent, or_none, present_all, same_or_other, refused_flows, refused_sums, sum_fits, sum_is_after}
+use Rattle.crn_segments.proofs.Steps.{above_or_not, flow_none, flows_exist, map_some, none_absent, or_none, or_some, present_all, same_or_other, refused_flows, refused_sums, sum_fits, sum_is_after}
 use Rattle.crn_segments.specs.Causes.{MayBegin, ComesTo, IsFirstAbsent, SpeciesGoes, StopsAt, IsStepCause}
 use Rattle.crn_segments.specs.Fits.{SpeciesFits, flows_of}
 use Rattle.crn_segments.specs.Flows.{IsSegment}
@@ -23,14 +23,6 @@ use Rattle.crn_segments.specs.Signs.{is_positive_ℚ, is_negative_ℚ}
 use Rattle.crn_segments.specs.Step.{first_absent, flow_refusal, flows_refusal, sum_of, sum_refusal, first_refusal, sums_refusal, step_refusal}
 use Rattle.crn_segments.specs.declared.StepError.{StepError}
 use Rattle.crn_segments.specs.declared.StepError.TheVariants.{NoReaction, NotPresent, TooBig, TakesMore}
-
-or_some : {T : Type 0} (a b : Option T) (x : T) → option_or a b ≡ Some x → (a ≡ Some x) ⊎ ((a ≡ None) × (b ≡ Some x))
-or_some None b x h = inr (refl, h)
-or_some (Some y) b x h = inl h
-
-map_some : {T U : Type 0} (f : T → U) (o : Option T) (x : U) → option_map f o ≡ Some x → (t : T) × (o ≡ Some t) × (f t ≡ x)
-map_some f None x h = absurd (cc h)
-map_some f (Some t) x h = (t, refl, let e : f t ≡ x = cc h in e)
 
 -- ---- the least reactant that is absent
 

@@ -29,9 +29,17 @@ pub or_none : {T : Type 0} (a b : Option T) → option_or a b ≡ None → (a �
 or_none None b h = (refl, h)
 or_none (Some x) b h = absurd (cc)
 
+pub or_some : {T : Type 0} (a b : Option T) (x : T) → option_or a b ≡ Some x → (a ≡ Some x) ⊎ ((a ≡ None) × (b ≡ Some x))
+or_some None b x h = inr (refl, h)
+or_some (Some y) b x h = inl h
+
 map_none : {T U : Type 0} (f : T → U) (o : Option T) → option_map f o ≡ None → o ≡ None
 map_none f None h = refl
 map_none f (Some x) h = absurd (cc)
+
+pub map_some : {T U : Type 0} (f : T → U) (o : Option T) (x : U) → option_map f o ≡ Some x → (t : T) × (o ≡ Some t) × (f t ≡ x)
+map_some f None x h = absurd (cc h)
+map_some f (Some t) x h = (t, refl, let e : f t ≡ x = cc h in e)
 
 pub refused_flows : (net : Network) (c : List ℚ) (u : List Flow) (x : StepError) → flows_refusal net c u ≡ Some x → step_refusal net c u ≡ Some x
 unfolding step_refusal

@@ -237,6 +237,7 @@ impl<'a> Replay<'a> {
         ensures legal { IsOk result ↔ (IsLegal self.old.network self.old.state segment.now × StepFits self.old.network self.old.state segment.now) }
         ensures after { OnOk result (self.new ≡ record self.old { state = after self.old.network self.old.state segment.now }) }
         ensures unchanged { OnErr result (self.new ≡ self.old) }
+        ensures segment { IsSegment segment.now }
     {
         self.apply(segment.flows())
     }
@@ -259,16 +260,14 @@ impl<'a> Replay<'a> {
         ensures value { result.now ≡ self.now.state }
         ensures valid { IsState self.now.network self.now.state }
     {
-        let state = &self.state;
-        // That no amount is negative is told where the amounts are read.
-        let _amounts = &state.amounts;
-        state
+        &self.state
     }
 
     /// The network lives longer than the replay, so a step may be made while it is held.
     pub fn network(&self) -> &'a Network
         ensures value { result.now ≡ self.now.network }
         ensures valid { IsNetwork self.now.network }
+        ensures reached { IsState self.now.network self.now.state }
     {
         self.network
     }
