@@ -18,7 +18,7 @@ use Rattle.crn_completer.specs.declared.CompletionTooBig.{CompletionTooBig}
 
 -- ---- quotients
 
-quotients_fit : (low n : ℕ) (m : ℕ → ℚ) (ps : List Part) → AreParts low n ps → unfit_quotient m ps ≡ None → (s : ℕ) → 0 < count_of ps s → IsFrac (m s /ℚ whole (pos (count_of ps s)))
+pub quotients_fit : (low n : ℕ) (m : ℕ → ℚ) (ps : List Part) → AreParts low n ps → unfit_quotient m ps ≡ None → (s : ℕ) → 0 < count_of ps s → IsFrac (m s /ℚ whole (pos (count_of ps s)))
 quotients_fit low n m [] ok h s some = absurd (omega arith)
 quotients_fit low n m (p ∷ ps) ok h s some =
     let either : Bool → Option ℕ = λ b. if b then unfit_quotient m ps else Some p.species in
@@ -32,7 +32,7 @@ quotients_fit low n m (p ∷ ps) ok h s some =
     (λ (t : (is_frac (m p.species /ℚ whole (pos p.count)) ≡ false) × (IsFrac (m p.species /ℚ whole (pos p.count)) → ⊥)). let e : Some p.species ≡ None = sym (ap either t.0) ∙ h in absurd (cc e))
     (is_frac_cases (m p.species /ℚ whole (pos p.count)))
 
-fitting_quotients : (low n : ℕ) (m : ℕ → ℚ) (ps : List Part) → AreParts low n ps → ((s : ℕ) → 0 < count_of ps s → IsFrac (m s /ℚ whole (pos (count_of ps s)))) → unfit_quotient m ps ≡ None
+pub fitting_quotients : (low n : ℕ) (m : ℕ → ℚ) (ps : List Part) → AreParts low n ps → ((s : ℕ) → 0 < count_of ps s → IsFrac (m s /ℚ whole (pos (count_of ps s)))) → unfit_quotient m ps ≡ None
 fitting_quotients low n m [] ok each = refl
 fitting_quotients low n m (p ∷ ps) ok each =
     let own : count_of (p ∷ ps) p.species ≡ p.count = count_of_same low n p ps ok in
@@ -45,7 +45,7 @@ fitting_quotients low n m (p ∷ ps) ok each =
 
 -- ---- sums
 
-some_or_none : (o : Option ℚ) → ((b : ℚ) × (o ≡ Some b)) ⊎ (is_some o ≡ false)
+pub some_or_none : (o : Option ℚ) → ((b : ℚ) × (o ≡ Some b)) ⊎ (is_some o ≡ false)
 some_or_none None = inr refl
 some_or_none (Some b) = inl (b, refl)
 
@@ -74,19 +74,19 @@ fitting_step net c u h =
 
 -- ---- turns
 
-true_or_false : (b : Bool) → (b ≡ true) ⊎ (b ≡ false)
+pub true_or_false : (b : Bool) → (b ≡ true) ⊎ (b ≡ false)
 true_or_false true = inl refl
 true_or_false false = inr refl
 
 module _ (net : Network) (ok : AreReactions net) (r : ℕ) (low : 1 ≤ r) (high : r ≤ length net.reactions) (c : List ℚ) where
-  either : Bool → Option ℕ
+  unfoldable pub either : Bool → Option ℕ
   either b = if b then None else option_or (unfit_quotient (amount c) (numbered net.reactions r).takes) (unfit_sum (sum_of net c (alone r (greatest_flux net r (amount c)))) 1 net.species)
 
-  absent : lacks (amount c) (numbered net.reactions r).takes ≡ true → LacksReactant net r c
+  pub absent : lacks (amount c) (numbered net.reactions r).takes ≡ true → LacksReactant net r c
   unfolding taken
   absent h = lacks_some 0 net.species (amount c) (numbered net.reactions r).takes (ok r low high).takes h
 
-  present : lacks (amount c) (numbered net.reactions r).takes ≡ false → LacksReactant net r c → ⊥
+  pub present : lacks (amount c) (numbered net.reactions r).takes ≡ false → LacksReactant net r c → ⊥
   unfolding taken
   present h k = lacks_none (amount c) (numbered net.reactions r).takes k.0 h k.1 k.2
 
@@ -114,7 +114,7 @@ module _ (net : Network) (ok : AreReactions net) (r : ℕ) (low : 1 ≤ r) (high
 
 -- ---- the completion
 
-named : ℕ → Option ℕ → Option CompletionTooBig
+unfoldable pub named : ℕ → Option ℕ → Option CompletionTooBig
 named r o = option_map (λ s. let e : CompletionTooBig = record { reaction = r; species = s } in e) o
 
 none_named : (r : ℕ) (o : Option ℕ) → named r o ≡ None → o ≡ None
@@ -126,7 +126,7 @@ module _ (net : Network) (ok : AreReactions net) (c : List ℚ) where
   abbrev pub Turn : ℕ → Type 0
   Turn r = TurnFits net (suc r) (after_all net c (completion_to net r c))
 
-  turns_fit : (n : ℕ) → n ≤ length net.reactions → completion_refusal_to net n c ≡ None → (r : ℕ) → r < n → Turn r
+  pub turns_fit : (n : ℕ) → n ≤ length net.reactions → completion_refusal_to net n c ≡ None → (r : ℕ) → r < n → Turn r
   unfolding completion_refusal_to named
   turns_fit zero h k r l = absurd (omega arith)
   turns_fit (suc n) h k r l =
@@ -134,7 +134,7 @@ module _ (net : Network) (ok : AreReactions net) (c : List ℚ) where
       ⊎_elim (λ (e : r ≡ n). subst Turn (sym e) (turn_fits net ok (suc n) (omega arith) h (after_all net c (completion_to net n c)) (none_named (suc n) _ o.1)))
       (λ (m : r < n). turns_fit n (omega arith) o.0 r m) (grind arith)
 
-  fitting_turns : (n : ℕ) → n ≤ length net.reactions → ((r : ℕ) → r < n → Turn r) → completion_refusal_to net n c ≡ None
+  pub fitting_turns : (n : ℕ) → n ≤ length net.reactions → ((r : ℕ) → r < n → Turn r) → completion_refusal_to net n c ≡ None
   unfolding completion_refusal_to named
   fitting_turns zero h f = refl
   fitting_turns (suc n) h f =

@@ -3,3 +3,4 @@ pub mod Turns
 pub mod Fitting
 pub mod InTurn
 pub mod Confluence
+pub mod CompletionCauses

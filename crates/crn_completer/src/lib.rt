@@ -1,6 +1,6 @@
 //! The completion of a run: each reaction in turn, with the greatest flux that its reactants allow.
 //!
-//! `Completer` keeps the flows of a completion, and leaves the replay after them. `specs/Refusal.antt` says which number of a completion is the first that does
+//! `Completer` keeps the flows of a completion, and leaves the replay after them. `specs/Causes.antt` says which number of a completion is the first that does
 //! not fit, and `laws` what holds of completions of every run.
 #![tactic(auto)]
 
@@ -12,6 +12,7 @@ ghost use Rattle.crn_net.specs.Totals.{IsExhausted};
 ghost use Rattle.crn_net.specs.Views.{parts_of, reaction_of};
 ghost use Rattle.crn_segments.specs.Fits.{CompletionFits};
 ghost use Rattle.crn_segments.specs.Step.{Answers};
+ghost use Rattle.crn_completer.specs.Causes.{IsCompletionCause};
 ghost use Rattle.crn_completer.specs.Kept.{each_alone};
 ghost use Rattle.crn_completer.specs.Refusal.{lacks, unfit_quotient, turn_refusal, completion_refusal, IsTooBig};
 
@@ -64,6 +65,7 @@ impl Completer {
     pub fn complete(&mut self, replay: &mut Replay<'_>) -> Result<(), CompletionTooBig>
         requires { length replay.old.network.reactions ≤ self.old.room }
         ensures cause { Answers result (completion_refusal replay.old.network replay.old.state) }
+        ensures refused { IfErr result (IsCompletionCause replay.old.network replay.old.state) }
         ensures fits { IsOk result ↔ CompletionFits replay.old.network replay.old.state }
         ensures ok { OnOk result (each_alone self.new.flows ≡ completion replay.old.network replay.old.state) }
         ensures err { IfErr result (λ e. each_alone self.new.flows ≡ completion_to replay.old.network (e.reaction - 1) replay.old.state) }
@@ -73,8 +75,6 @@ impl Completer {
         ensures network { replay.new.network ≡ replay.old.network }
         ensures room { self.new.room ≡ self.old.room }
     {
-        // That the replay stands at a state is told where it is read.
-        let _state = replay.state();
         self.flows.clear();
         for number in 1..=replay.network().reaction_count() {
             if let Some(flow) = take_turn(replay, number)? {

@@ -15,6 +15,7 @@ pub mod InRun
 pub mod ReadBack
 pub mod Sides
 pub mod InputLists
+pub mod StartLists
 pub mod Turns
 pub mod MinimumRun
 pub mod Causes

@@ -1,5 +1,7 @@
--- Why parts are refused: the first cause in order. The causes exclude each other, so each comes exactly where it holds.
+-- Why parts are refused: the first cause in order. The causes exclude each other, so each fault of the parts comes exactly where it holds. Memory is wanted for
+-- valid parts alone.
 use Rattle.std.specs.Prelude.{◌≡◌, ℕ, ◌≤◌, ◌<◌, List, length, take}
+use Rattle.crn_net.specs.Limits.{IsValid}
 use Rattle.crn_net.specs.Network.{Network, Rails, Ends, Reaction, IsEnds, AreEnds, IsContext, IsReaction, AreDifferent, input_species, numbered}
 use Rattle.crn_net.specs.declared.NetworkError.{NetworkError}
 use Rattle.crn_net.specs.declared.NetworkError.TheVariants.{Species, Reactions, Inputs, Input, Output, Context, Reaction as BadReaction, Memory}
@@ -56,4 +58,4 @@ IsCause net Context = HasSpecies net × HasReactions net × HasInputs net × Has
 IsCause net (BadReaction r) =
     HasSpecies net × HasReactions net × HasInputs net × HasGoodInputs net × HasOutput net × HasContext net
     × IsFirst (IsReactionAt net.species net.reactions) (length net.reactions) r
-IsCause net Memory = Unit {0}
+IsCause net Memory = IsValid net

@@ -10,9 +10,9 @@ ghost use Rattle.crn_net.specs.declared.NetworkError.{NetworkError};
 ghost use Rattle.crn_net.specs.declared.NetworkError.TheVariants.{Memory};
 ghost use Rattle.crn_net.specs.Minimum.{minimum, amounts, segments};
 
-/// Parts have at most one cause of refusal, and valid parts have none; only want of memory may come at any time.
+/// Parts have at most one cause of refusal, and valid parts have none but want of memory.
 pub fn causes_exclude_each_other()
-    ensures one { (net : Network) (e f : NetworkError) → e ≢ Memory → f ≢ Memory → IsCause net e → IsCause net f → e ≡ f }
+    ensures one { (net : Network) (e f : NetworkError) → IsCause net e → IsCause net f → e ≡ f }
     ensures none { (net : Network) (e : NetworkError) → e ≢ Memory → IsCause net e → IsValid net → ⊥ }
 {}
 

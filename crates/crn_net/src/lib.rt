@@ -125,7 +125,7 @@ impl Model for Network {
 }
 
 impl Network {
-    /// The network of these parts, or their first fault. The parts are dropped on a refusal.
+    /// The network of these parts, or their first fault. The parts are dropped on a refusal. Only parts without a fault want memory.
     pub fn make(alloc: Global, parts: Parts) -> Result<Network, NetworkError>
         ensures made { IfOk result (λ n. (n ≡ network_of parts) × IsValid (network_of parts)) }
         ensures refused { IfErr result (IsCause (network_of parts)) }

@@ -58,7 +58,7 @@ none_in : (m : ℕ → Option ℚ) (s left : ℕ) → ((j : ℕ) → s ≤ j →
 none_in m s zero h = refl
 none_in m s (suc left) h = ap₂ option_or (h s (omega arith) (omega arith)) (none_in m (suc s) left (λ j low high. h j (omega (arith, low)) (omega (arith, high))))
 
-first_in : (m : ℕ → Option ℚ) (s left t : ℕ) (e : StepError) → s ≤ t → t < s + left → ((j : ℕ) → s ≤ j → j < t → sum_refusal j (m j) ≡ None) → sum_refusal t (m t) ≡ Some e → first_refusal m s left ≡ Some e
+pub first_in : (m : ℕ → Option ℚ) (s left t : ℕ) (e : StepError) → s ≤ t → t < s + left → ((j : ℕ) → s ≤ j → j < t → sum_refusal j (m j) ≡ None) → sum_refusal t (m t) ≡ Some e → first_refusal m s left ≡ Some e
 first_in m s zero t e low high h here = absurd (omega arith)
 first_in m s (suc left) t e low high h here =
     ⊎_elim (λ (x : s ≡ t). ap (λ o. option_or o (first_refusal m (suc s) left)) (subst (λ z. sum_refusal z (m z) ≡ Some e) (sym x) here))

@@ -8,6 +8,7 @@ pub mod Products
 pub mod Refusals
 pub mod Steps
 pub mod Runs
+pub mod StepCauses
 pub mod Marks
 pub mod Clearing
 pub mod Least

@@ -1,7 +1,7 @@
 -- Steps that all answer Ok are a run.
 use Rattle.std.proofs.Common.{◌≡◌, ℕ, zero, suc, ◌+◌, ◌<◌, ◌≤◌, if◌then◌else◌, true, false, List, [], ◌∷◌, ◌++◌, length, Option, Some, None, refl, sym, ◌∙◌, ap, subst, ⊎_elim, arith}
 use Rattle.crn_fraction.specs.Rational.{ℚ, 0ℚ, ◌≤ℚ◌, ◌<ℚ◌}
-use Rattle.crn_net.specs.Network.{Network, Run, IsLegal, IsNetwork, AreFlows, after, amount}
+use Rattle.crn_net.specs.Network.{Network, Run, IsLegal, IsNetwork, AreFlows, after, after_all, amount}
 use Rattle.crn_net.specs.declared.Flow.{Flow}
 use Rattle.crn_segments.proofs.SignLaws.{is_negative_ℚ_cases}
 use Rattle.crn_segments.proofs.Steps.{AreSums, or_none, refusal_none, flows_exist, sum_is_after, went_legal, legal_goes}
@@ -49,7 +49,18 @@ pub run_steps : (net : Network) → IsNetwork net → (c : List ℚ) (us : List 
 run_steps net ok c [] d segs h = h.0
 run_steps net ok c (u ∷ us) d segs h = (legal_goes net c u ok segs.0 h.0.0 h.1.0, run_steps net ok (after net c u) us d segs.1 (h.0.1, h.1.1))
 
--- segments one after another, and then more
+-- ---- steps one after another
+
+-- they lead to the state after their segments
+pub goes_after : (net : Network) (a : List ℚ) (us : List (List Flow)) (c : List ℚ) → StepsGo net a us c → c ≡ after_all net a us
+goes_after net a [] c goes = goes
+goes_after net a (u ∷ us) c goes = goes_after net (after net a u) us c goes.1
+
+-- steps from a to c, and then further ones
+pub goes_append : (net : Network) (a : List ℚ) (us : List (List Flow)) (c : List ℚ) (vs : List (List Flow)) (d : List ℚ) → StepsGo net a us c → StepsGo net c vs d → StepsGo net a (us ++ vs) d
+goes_append net a [] c vs d goes more = subst (λ s. StepsGo net s vs d) goes more
+goes_append net a (u ∷ us) c vs d goes more = (goes.0, goes_append net (after net a u) us c vs d goes.1 more)
+
 pub segments_append : (us vs : List (List Flow)) → AreSegments us → AreSegments vs → AreSegments (us ++ vs)
 segments_append [] vs all more = more
 segments_append (u ∷ us) vs all more = (all.0, segments_append us vs all.1 more)

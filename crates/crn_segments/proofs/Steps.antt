@@ -29,9 +29,17 @@ pub or_none : {T : Type 0} (a b : Option T) → option_or a b ≡ None → (a �
 or_none None b h = (refl, h)
 or_none (Some x) b h = absurd (cc)
 
+pub or_some : {T : Type 0} (a b : Option T) (x : T) → option_or a b ≡ Some x → (a ≡ Some x) ⊎ ((a ≡ None) × (b ≡ Some x))
+or_some None b x h = inr (refl, h)
+or_some (Some y) b x h = inl h
+
 map_none : {T U : Type 0} (f : T → U) (o : Option T) → option_map f o ≡ None → o ≡ None
 map_none f None h = refl
 map_none f (Some x) h = absurd (cc)
+
+pub map_some : {T U : Type 0} (f : T → U) (o : Option T) (x : U) → option_map f o ≡ Some x → (t : T) × (o ≡ Some t) × (f t ≡ x)
+map_some f None x h = absurd (cc h)
+map_some f (Some t) x h = (t, refl, let e : f t ≡ x = cc h in e)
 
 pub refused_flows : (net : Network) (c : List ℚ) (u : List Flow) (x : StepError) → flows_refusal net c u ≡ Some x → step_refusal net c u ≡ Some x
 unfolding step_refusal
@@ -50,10 +58,10 @@ refusal_none net c u h = or_none (flows_refusal net c u) (sums_refusal net c u) 
 test_not_above : (n r : ℕ) → r ≤ n → nat_lt n r ≡ false
 test_not_above n r h = grind (arith, nat_tests)
 
-above_or_not : (n r : ℕ) → ((nat_lt n r ≡ true) × (n < r)) ⊎ ((nat_lt n r ≡ false) × (r ≤ n))
+pub above_or_not : (n r : ℕ) → ((nat_lt n r ≡ true) × (n < r)) ⊎ ((nat_lt n r ≡ false) × (r ≤ n))
 above_or_not n r = grind (arith, nat_tests)
 
-flow_none : (net : Network) (c : List ℚ) (f : Flow) → flow_refusal net c f ≡ None → (f.reaction ≤ length net.reactions) × (first_absent (amount c) (numbered net.reactions f.reaction).takes ≡ None)
+pub flow_none : (net : Network) (c : List ℚ) (f : Flow) → flow_refusal net c f ≡ None → (f.reaction ≤ length net.reactions) × (first_absent (amount c) (numbered net.reactions f.reaction).takes ≡ None)
 flow_none net c f h =
     let either : Bool → Option StepError = λ b. if b then Some (NoReaction f.reaction) else option_map (λ s. NotPresent f.reaction s) (first_absent (amount c) (numbered net.reactions f.reaction).takes) in
     ⊎_elim (λ (k : (nat_lt (length net.reactions) f.reaction ≡ true) × (length net.reactions < f.reaction)).
@@ -68,10 +76,10 @@ flows_exist net c low (f ∷ fs) h k =
     let first : low < f.reaction = h.0 in
     (omega arith, (flow_none net c f n.0).0, ≤ℚ_of_<ℚ _ _ h.1, flows_exist net c f.reaction fs h.2 n.1)
 
-same_or_other : (a b : ℕ) → (a ≡ b) ⊎ (a ≢ b)
+pub same_or_other : (a b : ℕ) → (a ≡ b) ⊎ (a ≢ b)
 same_or_other a b = grind arith
 
-present_all : (m : ℕ → ℚ) (ps : List Part) (s : ℕ) → first_absent m ps ≡ None → 0 < count_of ps s → 0ℚ <ℚ m s
+pub present_all : (m : ℕ → ℚ) (ps : List Part) (s : ℕ) → first_absent m ps ≡ None → 0 < count_of ps s → 0ℚ <ℚ m s
 present_all m [] s h k = absurd (omega arith)
 present_all m (p ∷ ps) s h k =
     let either : Bool → Option ℕ = λ b. if b then first_absent m ps else Some p.species in
@@ -105,7 +113,7 @@ all_applicable net c (f ∷ fs) h r k s t =
 
 -- the other way round
 
-none_absent : (low n : ℕ) (m : ℕ → ℚ) (ps : List Part) → AreParts low n ps → ((s : ℕ) → 0 < count_of ps s → 0ℚ <ℚ m s) → first_absent m ps ≡ None
+pub none_absent : (low n : ℕ) (m : ℕ → ℚ) (ps : List Part) → AreParts low n ps → ((s : ℕ) → 0 < count_of ps s → 0ℚ <ℚ m s) → first_absent m ps ≡ None
 none_absent low n m [] h k = refl
 none_absent low n m (p ∷ ps) h k =
     let here : is_positive_ℚ (m p.species) ≡ true = positive_is _ (k p.species (subst (λ x. 0 < x) (sym (count_of_same low n p ps h)) h.2)) in

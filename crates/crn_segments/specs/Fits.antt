@@ -19,14 +19,22 @@ abbrev pub SumFits : (ℕ → ℚ) → ℚ → List Flow → Type 0
 SumFits k a [] = Unit {0}
 SumFits k a (f ∷ fs) = IsFrac (k f.reaction *ℚ f.flux) × IsFrac (a +ℚ k f.reaction *ℚ f.flux) × SumFits k (a +ℚ k f.reaction *ℚ f.flux) fs
 
--- the step from c by the segment u fits: of each species the sum of its amount, and of the whole number given less taken times the flux for each reaction
--- that has it on a side
-abbrev pub StepFits : Network → List ℚ → List Flow → Type 0
-StepFits net c u = (s : ℕ) → 1 ≤ s → s ≤ net.species → SumFits (change net s) (amount c s) (flows_of net s u)
+-- in the step from c by the segment u the sum of species s fits: its amount, and the whole number given less taken times the flux for each reaction that has
+-- it on a side
+abbrev pub SpeciesFits : Network → List ℚ → List Flow → ℕ → Type 0
+SpeciesFits net c u s = SumFits (change net s) (amount c s) (flows_of net s u)
 
--- of each reactant of reaction r the quotient of its amount by its count fits
+-- the step fits: the sum of each species does
+abbrev pub StepFits : Network → List ℚ → List Flow → Type 0
+StepFits net c u = (s : ℕ) → 1 ≤ s → s ≤ net.species → SpeciesFits net c u s
+
+-- the quotient of the amount of reactant s of reaction r by its count fits
+abbrev pub QuotientFits : Network → ℕ → List ℚ → ℕ → Type 0
+QuotientFits net r c s = IsFrac (amount c s /ℚ whole (pos (taken net r s)))
+
+-- that of each reactant does
 abbrev pub QuotientsFit : Network → ℕ → List ℚ → Type 0
-QuotientsFit net r c = (s : ℕ) → 0 < taken net r s → IsFrac (amount c s /ℚ whole (pos (taken net r s)))
+QuotientsFit net r c = (s : ℕ) → 0 < taken net r s → QuotientFits net r c s
 
 -- the turn of reaction r at c fits: a reactant has the amount 0 and the reaction is left out, or the quotients fit, and the step of the greatest flux alone
 pub record TurnFits (net : Network) (r : ℕ) (c : List ℚ) : Type 0 where

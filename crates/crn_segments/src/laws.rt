@@ -1,5 +1,5 @@
 //! What holds of steps and completions. Each function here does nothing: its contract is a theorem about the definitions of `specs/`.
-ghost use Rattle.std.specs.Prelude.{List, ◌↔◌, ◌≡◌, None};
+ghost use Rattle.std.specs.Prelude.{List, ◌↔◌, ◌≡◌, None, Some};
 ghost use Rattle.crn_fraction.specs.Rational.{ℚ};
 ghost use Rattle.crn_net.specs.Network.{Network, IsNetwork, IsLegal, Run, start};
 ghost use Rattle.crn_net.specs.declared.Flow.{Flow};
@@ -7,11 +7,18 @@ ghost use Rattle.crn_net.specs.Minimum.{minimum, amounts};
 ghost use Rattle.crn_segments.specs.Fits.{StepFits, CompletionFits};
 ghost use Rattle.crn_segments.specs.Flows.{IsSegment};
 ghost use Rattle.crn_segments.specs.Step.{step_refusal};
+ghost use Rattle.crn_segments.specs.Causes.{IsStepCause};
+ghost use Rattle.crn_segments.specs.declared.StepError.{StepError};
 ghost use Rattle.crn_segments.specs.Steps.{AreSegments, StepsGo, StepsFit};
 
 /// Nothing refuses a step exactly where its segment is legal and the step fits.
 pub fn legal_steps()
     ensures { (net : Network) → IsNetwork net → (c : List ℚ) (u : List Flow) → IsSegment u → (step_refusal net c u ≡ None) ↔ (IsLegal net c u × StepFits net c u) }
+{}
+
+/// A step is refused for its cause, and for that alone: the first flow that may not begin, or else the least species whose sum does not fit or ends below 0.
+pub fn refused_steps()
+    ensures { (net : Network) → IsNetwork net → (c : List ℚ) (u : List Flow) → IsSegment u → (e : StepError) → (step_refusal net c u ≡ Some e) ↔ IsStepCause net c u e }
 {}
 
 /// Steps one after another all answer `Ok` exactly where they are a run and each of them fits.

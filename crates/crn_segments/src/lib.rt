@@ -1,7 +1,7 @@
 //! States, segments, and the replay of segments in turn over a network.
 //!
 //! `Replay` makes one step after another: a legal segment whose numbers fit changes the state, and every other is refused with its first cause and changes
-//! nothing. `specs/Step.antt` has the causes in their order, and `specs/Fits.antt` says when a step and a completion fit, that is, when no number in them is
+//! nothing. `specs/Causes.antt` has the causes in their order, and `specs/Fits.antt` says when a step and a completion fit, that is, when no number in them is
 //! too big for a `Frac`.
 #![tactic(auto)]
 
@@ -15,6 +15,7 @@ ghost use Rattle.crn_net.specs.Limits.{IsWithinLimits};
 ghost use Rattle.crn_segments.specs.Fits.{flows_of, StepFits};
 ghost use Rattle.crn_segments.specs.Signs.{is_positive_ℚ, is_negative_ℚ};
 ghost use Rattle.crn_segments.specs.Flows.{IsSegment, AreAscending};
+ghost use Rattle.crn_segments.specs.Causes.{IsStepCause};
 ghost use Rattle.crn_segments.specs.Step.{Answers, flow_refusal, flows_refusal, step_refusal};
 
 use crn_fraction::Frac;
@@ -232,9 +233,11 @@ impl<'a> Replay<'a> {
     /// Makes the segment happen, or says why it cannot. A refused step changes nothing.
     pub fn step(&mut self, segment: &Segment) -> Result<(), StepError>
         ensures cause { Answers result (step_refusal self.old.network self.old.state segment.now) }
+        ensures refused { IfErr result (IsStepCause self.old.network self.old.state segment.now) }
         ensures legal { IsOk result ↔ (IsLegal self.old.network self.old.state segment.now × StepFits self.old.network self.old.state segment.now) }
         ensures after { OnOk result (self.new ≡ record self.old { state = after self.old.network self.old.state segment.now }) }
         ensures unchanged { OnErr result (self.new ≡ self.old) }
+        ensures segment { IsSegment segment.now }
     {
         self.apply(segment.flows())
     }
@@ -244,6 +247,7 @@ impl<'a> Replay<'a> {
         requires number { 0 < flow.reaction }
         requires positive { 0ℚ <ℚ flow.flux }
         ensures cause { Answers result (step_refusal self.old.network self.old.state (flow ∷ [])) }
+        ensures refused { IfErr result (IsStepCause self.old.network self.old.state (flow ∷ [])) }
         ensures legal { IsOk result ↔ (IsLegal self.old.network self.old.state (flow ∷ []) × StepFits self.old.network self.old.state (flow ∷ [])) }
         ensures after { OnOk result (self.new ≡ record self.old { state = after self.old.network self.old.state (flow ∷ []) }) }
         ensures unchanged { OnErr result (self.new ≡ self.old) }
@@ -256,16 +260,14 @@ impl<'a> Replay<'a> {
         ensures value { result.now ≡ self.now.state }
         ensures valid { IsState self.now.network self.now.state }
     {
-        let state = &self.state;
-        // That no amount is negative is told where the amounts are read.
-        let _amounts = &state.amounts;
-        state
+        &self.state
     }
 
     /// The network lives longer than the replay, so a step may be made while it is held.
     pub fn network(&self) -> &'a Network
         ensures value { result.now ≡ self.now.network }
         ensures valid { IsNetwork self.now.network }
+        ensures reached { IsState self.now.network self.now.state }
     {
         self.network
     }
@@ -273,6 +275,7 @@ impl<'a> Replay<'a> {
     fn apply(&mut self, flows: &[Flow]) -> Result<(), StepError>
         requires { IsSegment flows.now }
         ensures cause { Answers result (step_refusal self.old.network self.old.state flows.now) }
+        ensures refused { IfErr result (IsStepCause self.old.network self.old.state flows.now) }
         ensures legal { IsOk result ↔ (IsLegal self.old.network self.old.state flows.now × StepFits self.old.network self.old.state flows.now) }
         ensures after { OnOk result (self.new ≡ record self.old { state = after self.old.network self.old.state flows.now }) }
         ensures unchanged { OnErr result (self.new ≡ self.old) }

@@ -1,3 +1,4 @@
+//! The sums of a step: of the species that its reactions have on a side, each with the amounts that flows add, in room that was made before.
 ghost use Rattle.std.specs.Prelude.{◌≡◌, ◌≢◌, ◌≤◌, ◌==◌, ℕ, List, [], drop, length, replicate, pos, Some, IfOk};
 ghost use Rattle.std.specs.Vec.{vec_capacity};
 ghost use Rattle.crn_segments.specs.declared.work.Mark.TheVariants.{Untouched};

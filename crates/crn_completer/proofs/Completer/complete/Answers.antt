@@ -8,6 +8,7 @@ use Rattle.crn_segments.specs.Progress.{Progress}
 use Rattle.crn_net.specs.Network.{Network, Run}
 use Rattle.crn_net.specs.declared.Flow.{Flow}
 use Rattle.crn_completer.specs.Refusal.{completion_refusal_to}
+use Rattle.crn_completer.proofs.CompletionCauses.{refused_completion}
 use Rattle.crn_completer.proofs.Fitting.{completion_fits, fitting_completion}
 use Rattle.crn_completer.proofs.InTurn.{Turned, turned_none, turned_next, turned_refuses, all_exhausted, all_settled}
 use Rattle.crn_completer.proofs.Completer.complete.Goals as goal
@@ -107,17 +108,22 @@ returns-in_err-flow-clause-cause c =
     c.in_err-flow.field-0.0 (omega (arith, c.reaction_count-number-end.ensures.value, ap (λ (n : Network). length n.reactions) c.network.ensures.value))
     c.in_err-flow.ensures.err.0 c.in_err-flow.ensures.err.1)
 
+pub returns-in_err-flow-clause-refused : goal.returns-in_err-flow-clause-refused
+returns-in_err-flow-clause-refused c =
+    let p = err_from_is_err_and c.from_residual.result c.from_residual.ensures.1 in
+    rw (p.1, p.2) (refused_completion c.args.replay.now.network c.network.ensures.valid c.args.replay.now.state _ (refused (goal.at.returns-in_err-flow-clause-refused c).In_err-flow))
+
 pub returns-clause-fits : goal.returns-clause-fits
 returns-clause-fits c =
     (λ _. completion_fits c.args.replay.now.network c.network.ensures.valid.reactions c.args.replay.now.state (none_left (goal.at.returns-clause-fits c).After-loop-number).fits, λ _. refl)
 
 pub returns-clause-exhausted : goal.returns-clause-exhausted
 returns-clause-exhausted c =
-    all_exhausted c.args.replay.now.network c.network.ensures.valid c.args.replay.now.state c.state-state.ensures.valid _ _ (none_left (goal.at.returns-clause-exhausted c).After-loop-number)
+    all_exhausted c.args.replay.now.network c.network.ensures.valid c.args.replay.now.state c.network.ensures.reached _ _ (none_left (goal.at.returns-clause-exhausted c).After-loop-number)
 
 pub returns-clause-settled : goal.returns-clause-settled
 returns-clause-settled c =
-    all_settled c.args.replay.now.network c.network.ensures.valid c.args.replay.now.state c.state-state.ensures.valid _ _ (none_left (goal.at.returns-clause-settled c).After-loop-number)
+    all_settled c.args.replay.now.network c.network.ensures.valid c.args.replay.now.state c.network.ensures.reached _ _ (none_left (goal.at.returns-clause-settled c).After-loop-number)
 
 pub returns-after-branch-2-clause-fits : goal.returns-after-branch-2-clause-fits
 returns-after-branch-2-clause-fits c =
@@ -125,11 +131,11 @@ returns-after-branch-2-clause-fits c =
 
 pub returns-after-branch-2-clause-exhausted : goal.returns-after-branch-2-clause-exhausted
 returns-after-branch-2-clause-exhausted c =
-    all_exhausted c.args.replay.now.network c.network.ensures.valid c.args.replay.now.state c.state-state.ensures.valid _ _ (last_done (goal.at.returns-after-branch-2-clause-exhausted c).Else-number-number-end)
+    all_exhausted c.args.replay.now.network c.network.ensures.valid c.args.replay.now.state c.network.ensures.reached _ _ (last_done (goal.at.returns-after-branch-2-clause-exhausted c).Else-number-number-end)
 
 pub returns-after-branch-2-clause-settled : goal.returns-after-branch-2-clause-settled
 returns-after-branch-2-clause-settled c =
-    all_settled c.args.replay.now.network c.network.ensures.valid c.args.replay.now.state c.state-state.ensures.valid _ _ (last_done (goal.at.returns-after-branch-2-clause-settled c).Else-number-number-end)
+    all_settled c.args.replay.now.network c.network.ensures.valid c.args.replay.now.state c.network.ensures.reached _ _ (last_done (goal.at.returns-after-branch-2-clause-settled c).Else-number-number-end)
 
 pub returns-in_err-flow-clause-fits : goal.returns-in_err-flow-clause-fits
 returns-in_err-flow-clause-fits c =

@@ -4,6 +4,7 @@ use Rattle.crn_net.specs.Network.{AreFlows, IsNotNegative, after}
 use Rattle.crn_segments.specs.Step.{sums_refusal, first_refusal}
 use Rattle.crn_segments.specs.Sums.{IsReady, sum_in}
 use Rattle.crn_segments.proofs.Applied.{refused_as, going, settled_sums}
+use Rattle.crn_segments.proofs.StepCauses.{shown_cause}
 use Rattle.crn_segments.proofs.Steps.{AreSums, refused_flows, refused_sums, went_legal, flows_exist, sums_are_after, shown_refusal, shown_legal, shown_not_legal, shown_after}
 use Rattle.crn_segments.proofs.Replay.apply.Goals as goal
 use Rattle.crn_segments.proofs.Replay.apply.Goals.{In_ok-check_flows, In-Ok, In-Err, After-settle}
@@ -12,6 +13,12 @@ pub returns-in_err-check_flows-clause-cause : goal.returns-in_err-check_flows-cl
 returns-in_err-check_flows-clause-cause c =
     let p = err_from_is_err_and c.from_residual.result c.from_residual.ensures.1 in
     rw (p.1, p.2) (shown_refusal c.args.self.now c.self.inside.network.now c.self.inside.state c.self.view_is c.args.flows.now _
+    (refused_flows c.self.inside.network.now c.self.inside.state c.args.flows.now _ c.in_err-check_flows.ensures))
+
+pub returns-in_err-check_flows-clause-refused : goal.returns-in_err-check_flows-clause-refused
+returns-in_err-check_flows-clause-refused c =
+    let p = err_from_is_err_and c.from_residual.result c.from_residual.ensures.1 in
+    rw (p.1, p.2) (shown_cause c.args.self.now c.self.inside.network.now c.self.inside.state c.self.view_is c.args.flows.now c.self.invariant.valid c.requires _
     (refused_flows c.self.inside.network.now c.self.inside.state c.args.flows.now _ c.in_err-check_flows.ensures))
 
 pub returns-in_err-check_flows-clause-legal : goal.returns-in_err-check_flows-clause-legal
@@ -88,6 +95,11 @@ pub returns-in-Err-clause-cause : goal.returns-in-Err-clause-cause
 returns-in-Err-clause-cause c =
     shown_refusal c.args.self.now c.self.inside.network.now c.self.inside.state c.self.view_is c.args.flows.now (Some c.in-Err.error)
     (refused_sums c.self.inside.network.now c.self.inside.state c.args.flows.now (Some c.in-Err.error) c.in_ok-check_flows.ensures (stopped (goal.at.returns-in-Err-clause-cause c).In-Err))
+
+pub returns-in-Err-clause-refused : goal.returns-in-Err-clause-refused
+returns-in-Err-clause-refused c =
+    shown_cause c.args.self.now c.self.inside.network.now c.self.inside.state c.self.view_is c.args.flows.now c.self.invariant.valid c.requires c.in-Err.error
+    (refused_sums c.self.inside.network.now c.self.inside.state c.args.flows.now (Some c.in-Err.error) c.in_ok-check_flows.ensures (stopped (goal.at.returns-in-Err-clause-refused c).In-Err))
 
 pub returns-in-Err-clause-legal : goal.returns-in-Err-clause-legal
 returns-in-Err-clause-legal c = (
