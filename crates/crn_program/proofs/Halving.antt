@@ -4,10 +4,9 @@ use Rattle.std.proofs.lemmas.List.{length-append}
 use Rattle.std.specs.Prelude.{pos, if◌then◌else◌, OnErr, Result, Ok, Err}
 use Rattle.std.specs.Option.{option_or, option_map}
 use Rattle.crn_fraction.specs.Rational.{ℚ, 0ℚ, ◌+ℚ◌, ◌*ℚ◌, ◌/ℚ◌, ◌≤ℚ◌, ◌<ℚ◌, whole}
-use Rattle.crn_fraction.proofs.Order.{≤ℚ_or_<ℚ, ≤ℚ_of_<ℚ}
-use Rattle.crn_fraction.proofs.Linear.{≤ℚ_trans, not_<ℚ, +ℚ-≤ℚ_left}
-use Rattle.crn_fraction.proofs.Products.{whole-*ℚ-/ℚ, whole-*ℚ-≤ℚ, ≤ℚ_of_whole-*ℚ}
-use Rattle.crn_fraction.proofs.Ring.{whole-+ℤ, +ℚ-*ℚ, one-*ℚ, +ℚ-zero, *ℚ-zero}
+use Rattle.crn_fraction.proofs.Order.{≤ℚ_of_<ℚ}
+use Rattle.crn_fraction.proofs.Linear.{≤ℚ_trans}
+use Rattle.crn_fraction.proofs.Products.{/ℚ-positive, /ℚ-whole_below, whole-*ℚ-≤ℚ, whole_positive}
 use Rattle.crn_net.specs.Network.{Network, IsNetwork, IsState, IsLegal, amount, numbered, taken, after, after_all, alone, greatest_flux}
 use Rattle.crn_net.specs.declared.Flow.{Flow}
 use Rattle.crn_net.proofs.Completion.{legal_alone}
@@ -17,42 +16,24 @@ use Rattle.crn_segments.specs.Signs.{is_frac}
 use Rattle.crn_segments.specs.Step.{sum_of, step_refusal}
 use Rattle.crn_segments.specs.Steps.{AreSegments, StepsGo}
 use Rattle.crn_segments.specs.declared.StepError.TheVariants.{TooBig}
+use Rattle.crn_segments.proofs.Runs.{goes_after, goes_append, segments_append}
 use Rattle.crn_completer.specs.Refusal.{lacks, unfit_quotient, unfit_sum}
 use Rattle.crn_completer.proofs.Turns.{present_turn, legal_refusal}
 use Rattle.crn_program.specs.Bulk.{drawn, half_flux, happens, half_turn, is_half_unfit, is_turn_unfit, halves_to, halves_refusal_to}
 use Rattle.crn_bulk.specs.Generator.{next}
 use Rattle.crn_segments.specs.Progress.{Progress}
 
--- ---- half of the greatest flux
-
-twice : (a : ℚ) → whole (pos 2) *ℚ a ≡ a +ℚ a
-twice a = ap (λ k. k *ℚ a) (whole-+ℤ (pos 1) (pos 1)) ∙ +ℚ-*ℚ (whole (pos 1)) (whole (pos 1)) a ∙ ap₂ (λ x y. x +ℚ y) (one-*ℚ a) (one-*ℚ a)
-
-half_positive : (u : ℚ) → 0ℚ <ℚ u → 0ℚ <ℚ u /ℚ whole (pos 2)
-half_positive u positive =
-    ⊎_elim (λ (low : (u /ℚ whole (pos 2)) ≤ℚ 0ℚ).
-    let below : (whole (pos 2) *ℚ (u /ℚ whole (pos 2))) ≤ℚ (whole (pos 2) *ℚ 0ℚ) = whole-*ℚ-≤ℚ _ _ 2 low in
-    absurd (not_<ℚ _ _ (subst (λ x. u ≤ℚ x) (*ℚ-zero (whole (pos 2))) (subst (λ x. x ≤ℚ (whole (pos 2) *ℚ 0ℚ)) (whole-*ℚ-/ℚ u 2 (lit< tt)) below)) positive))
-    (λ (high : 0ℚ <ℚ (u /ℚ whole (pos 2))). high)
-    (≤ℚ_or_<ℚ (u /ℚ whole (pos 2)) 0ℚ)
-
-half_less : (u : ℚ) → 0ℚ ≤ℚ u → (u /ℚ whole (pos 2)) ≤ℚ u
-half_less u positive =
-    ≤ℚ_of_whole-*ℚ (u /ℚ whole (pos 2)) u 2 (lit< tt)
-    (subst (λ x. x ≤ℚ (whole (pos 2) *ℚ u)) (sym (whole-*ℚ-/ℚ u 2 (lit< tt)))
-    (subst (λ x. u ≤ℚ x) (sym (twice u)) (subst (λ x. x ≤ℚ (u +ℚ u)) (+ℚ-zero u) (+ℚ-≤ℚ_left 0ℚ u u positive))))
-
 -- ---- the step of a reaction whose reactants are there
 
 module _ (net : Network) (ok : IsNetwork net) (r : ℕ) (low : 1 ≤ r) (high : r ≤ length net.reactions) (c : List ℚ) (state : IsState net c) (present : lacks (amount c) (numbered net.reactions r).takes ≡ false) where
   pub half_flux_positive : 0ℚ <ℚ half_flux net r c
-  half_flux_positive = half_positive (greatest_flux net r (amount c)) (present_turn net ok r low high c state present)
+  half_flux_positive = /ℚ-positive (greatest_flux net r (amount c)) (whole (pos 2)) (present_turn net ok r low high c state present) (whole_positive 2 (lit< tt))
 
   half_legal : IsLegal net c (alone r (half_flux net r c))
   half_legal =
       legal_alone net ok.reactions r low high c state.not_negative (half_flux net r c) half_flux_positive
       (λ s t. ≤ℚ_trans _ _ _
-      (whole-*ℚ-≤ℚ (half_flux net r c) (greatest_flux net r (amount c)) (taken net r s) (half_less _ (≤ℚ_of_<ℚ _ _ (present_turn net ok r low high c state present))))
+      (whole-*ℚ-≤ℚ (half_flux net r c) (greatest_flux net r (amount c)) (taken net r s) (/ℚ-whole_below (greatest_flux net r (amount c)) 2 (lit< tt) (≤ℚ_of_<ℚ _ _ (present_turn net ok r low high c state present))))
       (greatest_flux_fits net ok.reactions r low high (amount c) s t))
 
   pub half_segment : IsSegment (alone r (half_flux net r c))
@@ -97,18 +78,6 @@ pub happens_present : (net : Network) (draw r : ℕ) (c : List ℚ) → happens 
 happens_present net draw r c moves = and_right (draw % 2 == 0) (lacks (amount c) (numbered net.reactions r).takes) moves
 
 -- ---- turn after turn
-
-pub goes_after : (net : Network) (a : List ℚ) (us : List (List Flow)) (c : List ℚ) → StepsGo net a us c → c ≡ after_all net a us
-goes_after net a [] c goes = goes
-goes_after net a (u ∷ us) c goes = goes_after net (after net a u) us c goes.1
-
-pub goes_append : (net : Network) (a : List ℚ) (us : List (List Flow)) (c : List ℚ) (vs : List (List Flow)) (d : List ℚ) → StepsGo net a us c → StepsGo net c vs d → StepsGo net a (us ++ vs) d
-goes_append net a [] c vs d goes more = subst (λ s. StepsGo net s vs d) goes more
-goes_append net a (u ∷ us) c vs d goes more = (goes.0, goes_append net (after net a u) us c vs d goes.1 more)
-
-segments_append : (us vs : List (List Flow)) → AreSegments us → AreSegments vs → AreSegments (us ++ vs)
-segments_append [] vs all more = more
-segments_append (u ∷ us) vs all more = (all.0, segments_append us vs all.1 more)
 
 -- a turn makes one segment at most
 pub turn_short : (net : Network) (draw r : ℕ) (c : List ℚ) → length (half_turn net draw r c) ≤ 1

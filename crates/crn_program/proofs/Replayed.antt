@@ -9,6 +9,7 @@ use Rattle.crn_segments.specs.Progress.{Progress}
 use Rattle.crn_segments.specs.Step.{step_refusal}
 use Rattle.crn_segments.specs.Steps.{AreSegments, StepsGo}
 use Rattle.crn_segments.specs.declared.StepError.{StepError}
+use Rattle.crn_segments.proofs.Runs.{goes_append, segments_append}
 use Rattle.crn_program.specs.Runs.{IsRefused}
 
 -- the first i of the segments were made to happen
@@ -20,22 +21,14 @@ pub record Replayed (p : Progress) (us : List (List Flow)) (i : ℕ) (q : Progre
 pub none_replayed : (p : Progress) (us : List (List Flow)) → Replayed p us 0 p
 none_replayed p us = record { network = refl; leads = refl; segments = tt }
 
-goes_more : (net : Network) (a : List ℚ) (us : List (List Flow)) (c : List ℚ) (u : List Flow) (d : List ℚ) → StepsGo net a us c → step_refusal net c u ≡ None → d ≡ after net c u → StepsGo net a (us ++ u ∷ []) d
-goes_more net a [] c u d goes none next = let none' : step_refusal net a u ≡ None = subst (λ s. step_refusal net s u ≡ None) goes none in (none', next ∙ ap (λ s. after net s u) goes)
-goes_more net a (v ∷ us) c u d goes none next = (goes.0, goes_more net (after net a v) us c u d goes.1 none next)
-
-segments_more : (us : List (List Flow)) (u : List Flow) → AreSegments us → IsSegment u → AreSegments (us ++ u ∷ [])
-segments_more [] u all one = (one, tt)
-segments_more (v ∷ us) u all one = (all.0, segments_more us u all.1 one)
-
 pub replayed_more : (p : Progress) (us : List (List Flow)) (i : ℕ) (q r : Progress) (u : List Flow) → i < length us → u ≡ get_or us i u → Replayed p us i q → IsSegment u
     → step_refusal q.network q.state u ≡ None → r ≡ record q { state = after q.network q.state u } → Replayed p us (i + 1) r
 replayed_more p us i q r u within here so_far segment none next =
     let longer : take (i + 1) us ≡ take i us ++ u ∷ [] = take_more us i u within ∙ ap (λ v. take i us ++ v ∷ []) (sym here) in
     record {
       network = ap (λ (s : Progress). s.network) next ∙ so_far.network;
-      leads = rw longer (goes_more p.network p.state (take i us) q.state u r.state so_far.leads (rw (sym so_far.network) none) (ap (λ (s : Progress). s.state) next ∙ ap (λ n. after n q.state u) so_far.network));
-      segments = rw longer (segments_more (take i us) u so_far.segments segment);
+      leads = rw longer (goes_append p.network p.state (take i us) q.state (u ∷ []) r.state so_far.leads (rw (sym so_far.network) none, ap (λ (s : Progress). s.state) next ∙ ap (λ n. after n q.state u) so_far.network));
+      segments = rw longer (segments_append (take i us) (u ∷ []) so_far.segments (segment, tt));
     }
 
 pub all_replayed : (p : Progress) (us : List (List Flow)) (i : ℕ) (q : Progress) → length us ≤ i → Replayed p us i q → StepsGo p.network p.state us q.state × AreSegments us

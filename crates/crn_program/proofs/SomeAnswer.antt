@@ -26,7 +26,7 @@ use Rattle.crn_segments.specs.Step.{step_refusal, sum_of}
 use Rattle.crn_segments.specs.Steps.{AreSegments, StepsGo}
 use Rattle.crn_segments.specs.declared.StepError.{StepError}
 use Rattle.crn_segments.specs.declared.StepError.TheVariants.{TooBig}
-use Rattle.crn_segments.proofs.Runs.{steps_run, segments_append}
+use Rattle.crn_segments.proofs.Runs.{steps_run, goes_after, goes_append, segments_append}
 use Rattle.crn_segments.proofs.SignLaws.{is_frac_cases}
 use Rattle.crn_segments.proofs.Steps.{or_none}
 use Rattle.crn_completer.specs.Refusal.{completion_refusal, unfit_sum}
@@ -59,7 +59,7 @@ use Rattle.crn_program.specs.declared.words.Command.TheVariants.{OfText, Bulk}
 use Rattle.crn_program.proofs.Answering.{row_found}
 use Rattle.crn_program.proofs.Computing.{computes_value, job_amounts}
 use Rattle.crn_program.proofs.Found.{found_of, found_of_job, found_of_run, found_of_halves}
-use Rattle.crn_program.proofs.Halving.{half_segment, half_refusal, odd_rests, turns, happens_present, goes_after, goes_append}
+use Rattle.crn_program.proofs.Halving.{half_segment, half_refusal, odd_rests, turns, happens_present}
 use Rattle.crn_program.proofs.SmallCounts.{compiled_function}
 
 -- ---- where segments lead

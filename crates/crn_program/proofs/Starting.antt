@@ -10,48 +10,13 @@ use Rattle.crn_net.specs.declared.Rails.{Rails}
 use Rattle.crn_net.specs.declared.Rails.TheVariants.{Dual, Direct}
 use Rattle.crn_net.specs.declared.Ends.{Ends}
 use Rattle.crn_net.specs.declared.Ends.TheVariants.{Pair, One}
-use Rattle.crn_net.proofs.InputLists.{species_push, inputs_take, input_is_new}
+use Rattle.crn_net.proofs.StartLists.{apart_or_in, given_nothing, given_after, given_before, new_apart, drop_not_negative, next_species, species_within, next_is_new, state_is_start}
 use Rattle.crn_net.proofs.Start.{pick_yes, pick_no, amount-start}
 use Rattle.crn_segments.proofs.Amounts.{amount-set_same, amount-set_other}
 use Rattle.crn_program.specs.Start.{AreAmong, given}
 
--- ---- what lists of species and amounts give
-
 same_or_other : (a b : ℕ) → (a ≡ b) ⊎ (a ≢ b)
 same_or_other a b = grind arith
-
--- a species is not among them, or it is
-apart_or_in : (s : ℕ) (is : List ℕ) → IsApart s is ⊎ (IsApart s is → ⊥)
-apart_or_in s [] = inl tt
-apart_or_in s (i ∷ is) =
-    ⊎_elim (λ (e : s ≡ i). inr (λ h. h.0 e))
-    (λ (n : s ≢ i). ⊎_elim (λ (a : IsApart s is). inl (n, a)) (λ (b : IsApart s is → ⊥). inr (λ h. b h.1)) (apart_or_in s is))
-    (same_or_other s i)
-
--- nothing is given to a species that is not among them
-given_nothing : (is : List ℕ) (xs : List ℚ) (s : ℕ) → IsApart s is → given_to is xs s ≡ 0ℚ
-given_nothing [] xs s h = refl
-given_nothing (i ∷ is) [] s h = refl
-given_nothing (i ∷ is) (x ∷ xs) s h = pick_no i s x _ (λ e. h.0 (sym e)) ∙ given_nothing is xs s h.1
-
-given_no_amounts : (is : List ℕ) (s : ℕ) → given_to is [] s ≡ 0ℚ
-given_no_amounts [] s = refl
-given_no_amounts (i ∷ is) s = refl
-
--- a species that is not among the first gets what the amounts after theirs give
-given_after : (is js : List ℕ) (xs : List ℚ) (s : ℕ) → IsApart s is → given_to (is ++ js) xs s ≡ given_to js (drop (length is) xs) s
-given_after [] js xs s h = refl
-given_after (i ∷ is) js [] s h = sym (given_no_amounts js s)
-given_after (i ∷ is) js (x ∷ xs) s h = pick_no i s x _ (λ e. h.0 (sym e)) ∙ given_after is js xs s h.1
-
--- one that is among the first gets what is given to it there
-given_before : (is js : List ℕ) (xs : List ℚ) (s : ℕ) → (IsApart s is → ⊥) → length is ≤ length xs → given_to (is ++ js) xs s ≡ given_to is xs s
-given_before [] js xs s h long = absurd (h tt)
-given_before (i ∷ is) js [] s h long = absurd (omega arith)
-given_before (i ∷ is) js (x ∷ xs) s h long =
-    ⊎_elim (λ (e : i ≡ s). pick_yes i s x _ e ∙ sym (pick_yes i s x _ e))
-    (λ (n : i ≢ s). ap (λ w. if i == s then x else w) (given_before is js xs s (λ a. h ((λ e. n (sym e)), a)) (omega arith)))
-    (same_or_other i s)
 
 -- ---- one input
 
@@ -97,11 +62,6 @@ length-given (Pair a b) (x ∷ y ∷ ys) c = length-set (set c (a - 1) x) (b - 1
 length-given (One a) [] c = refl
 length-given (One a) (x ∷ ys) c = length-set c (a - 1) x
 
--- no species of these is among those
-new_apart : (s : ℕ) (js earlier : List ℕ) → AreNew js earlier → (IsApart s earlier → ⊥) → IsApart s js
-new_apart s [] earlier h k = tt
-new_apart s (j ∷ js) earlier h k = ((λ e. k (subst (λ i. IsApart i earlier) (sym e) h.0)), new_apart s js earlier h.1 k)
-
 -- ---- the inputs in turn
 
 -- the first i inputs of the network got their amounts
@@ -125,21 +85,6 @@ none_given net xs c is = record {
   amounts = λ s. ap (λ d. amount d s) is ∙ amount_zero net.species s;
 }
 
--- the species up to the next input, and those of all
-next_species : (es : List Ends) (i : ℕ) (d : Ends) → i < length es → input_species (take (i + 1) es) ≡ input_species (take i es) ++ species_of (get_or es i d)
-next_species es i d l = ap input_species (take_more es i d l) ∙ species_push (take i es) (get_or es i d)
-
-input_species-append : (es fs : List Ends) → input_species (es ++ fs) ≡ input_species es ++ input_species fs
-input_species-append [] fs = refl
-input_species-append (Pair a b ∷ es) fs = ap (λ is. a ∷ b ∷ is) (input_species-append es fs)
-input_species-append (One a ∷ es) fs = ap (λ is. a ∷ is) (input_species-append es fs)
-
-species_within : (es : List Ends) (i : ℕ) → length (input_species (take i es)) ≤ length (input_species es)
-species_within es zero = omega arith
-species_within [] (suc i) = omega arith
-species_within (Pair a b ∷ es) (suc i) = omega (arith, species_within es i)
-species_within (One a ∷ es) (suc i) = omega (arith, species_within es i)
-
 pub enough_left : (net : Network) (xs : List ℚ) (i : ℕ) (c rest : List ℚ) (d : Ends) → AreAmounts net xs → i < length net.inputs → AreGiven net xs i c rest → length (species_of (get_or net.inputs i d)) ≤ length rest
 enough_left net xs i c rest d ok l g =
     let k = length (input_species (take i net.inputs)) in
@@ -147,17 +92,8 @@ enough_left net xs i c rest d ok l g =
     ap length (next_species net.inputs i d l) ∙ length-append (input_species (take i net.inputs)) (species_of (get_or net.inputs i d)) in
     omega (arith, more, species_within net.inputs (i + 1), ok.long, ap length g.left, length-drop k xs)
 
-drop_not_negative : (k : ℕ) (xs : List ℚ) → AreNotNegative xs → AreNotNegative (drop k xs)
-drop_not_negative zero xs h = h
-drop_not_negative (suc k) [] h = tt
-drop_not_negative (suc k) (x ∷ xs) h = drop_not_negative k xs h.1
-
 pub left_not_negative : (net : Network) (xs : List ℚ) (i : ℕ) (c rest : List ℚ) → AreAmounts net xs → AreGiven net xs i c rest → AreNotNegative rest
 left_not_negative net xs i c rest ok g = subst AreNotNegative (sym g.left) (drop_not_negative (length (input_species (take i net.inputs))) xs ok.not_negative)
-
--- the next input is new
-next_is_new : (net : Network) (i : ℕ) (d : Ends) → IsNetwork net → i < length net.inputs → IsEnds net.rails net.species (get_or net.inputs i d) × AreNew (species_of (get_or net.inputs i d)) (input_species (take i net.inputs))
-next_is_new net i d ok l = input_is_new net.rails net.species net.inputs i d l (inputs_take net.rails net.species net.inputs (i + 1) (ok.inputs, ok.different))
 
 among : (rails : Rails) (n : ℕ) (e : Ends) → IsEnds rails n e → AreAmong n e
 among Dual n (Pair a b) h = (h.0, h.1, h.2, h.3)
@@ -199,25 +135,19 @@ next_given net xs i c rest new left d ok amounts l g new_is left_is =
 
 -- ---- the start
 
-same_state : (net : Network) (xs c : List ℚ) → length c ≡ net.species → ((s : ℕ) → 1 ≤ s → s ≤ net.species → amount c s ≡ amount (start net xs) s) → c ≡ start net xs
-unfolding start
-same_state net xs c long same =
-    let longs : length (start net xs) ≡ net.species = length-map-range_with_len (λ s. or_context net.context s (given_to (input_species net.inputs) xs s)) 1 net.species in
-    ext_get_or 0ℚ c (start net xs) (long ∙ sym longs) (λ i h. same (suc i) (omega arith) (omega (arith, long)))
-
 all_given : (net : Network) (xs : List ℚ) (i : ℕ) (c rest : List ℚ) → length net.inputs ≤ i → AreGiven net xs i c rest → (s : ℕ) → amount c s ≡ given_to (input_species net.inputs) xs s
 all_given net xs i c rest l g s = g.amounts s ∙ ap (λ es. given_to (input_species es) xs s) (take_all i net.inputs l)
 
 -- with no context
 pub started : (net : Network) (xs : List ℚ) (i : ℕ) (c rest : List ℚ) → length net.inputs ≤ i → AreGiven net xs i c rest → net.context ≡ None → c ≡ start net xs
 started net xs i c rest l g none =
-    same_state net xs c g.long (λ s low high. all_given net xs i c rest l g s ∙ sym (amount-start net xs s low high ∙ ap (λ o. or_context o s (given_to (input_species net.inputs) xs s)) none))
+    state_is_start net xs c g.long (λ s low high. all_given net xs i c rest l g s ∙ sym (amount-start net xs s low high ∙ ap (λ o. or_context o s (given_to (input_species net.inputs) xs s)) none))
 
 -- with a context, which gets 1
 pub started_with : (net : Network) (xs : List ℚ) (i : ℕ) (c rest new : List ℚ) (k : ℕ) → IsNetwork net → length net.inputs ≤ i → AreGiven net xs i c rest → net.context ≡ Some k → new ≡ set c (k - 1) (whole (pos 1)) → new ≡ start net xs
 started_with net xs i c rest new k ok l g some new_is =
     let inside : IsContext net.species net.inputs (Some k) = subst (IsContext net.species net.inputs) some ok.context in
-    same_state net xs new (ap length new_is ∙ length-set c (k - 1) (whole (pos 1)) ∙ g.long) (λ s low high.
+    state_is_start net xs new (ap length new_is ∙ length-set c (k - 1) (whole (pos 1)) ∙ g.long) (λ s low high.
     ap (λ w. amount w s) new_is
     ∙ ⊎_elim
     (λ (e : s ≡ k). ap (amount (set c (k - 1) (whole (pos 1)))) e ∙ amount-set_same c k (whole (pos 1)) inside.0 (omega (arith, inside.1, g.long)) ∙ sym (pick_yes k s (whole (pos 1)) _ (sym e)))
