@@ -52,16 +52,16 @@ either_fits false x y first second = second
 more_fit : (k : ℕ) (terms : List Signed) (column : ℕ) → AreSmall (more_tokens terms) → IsFrac (entry_in k terms column)
 more_fit k [] column small = IsFrac-zero
 more_fit k (t ∷ terms) column small =
-    let rest = small_back (sign_before t.negative) (term_tokens t.term ++ more_tokens terms) small in
-    either_fits (column_of k t.term == column) _ _ (term_fits t.negative t.term (small_front (term_tokens t.term) (more_tokens terms) rest))
-    (more_fit k terms column (small_back (term_tokens t.term) (more_tokens terms) rest))
+    let before = sign_before t.negative ++ term_tokens t.term in
+    either_fits (column_of k t.term == column) _ _ (term_fits t.negative t.term (small_back (sign_before t.negative) (term_tokens t.term) (small_front before (more_tokens terms) small)))
+    (more_fit k terms column (small_back before (more_tokens terms) small))
 
 terms_fit : (k : ℕ) (terms : List Signed) (column : ℕ) → AreSmall (form_tokens terms) → IsFrac (entry_in k terms column)
 terms_fit k [] column small = IsFrac-zero
 terms_fit k (t ∷ terms) column small =
-    let rest = small_back (minus_before t.negative) (term_tokens t.term ++ more_tokens terms) small in
-    either_fits (column_of k t.term == column) _ _ (term_fits t.negative t.term (small_front (term_tokens t.term) (more_tokens terms) rest))
-    (more_fit k terms column (small_back (term_tokens t.term) (more_tokens terms) rest))
+    let before = minus_before t.negative ++ term_tokens t.term in
+    either_fits (column_of k t.term == column) _ _ (term_fits t.negative t.term (small_back (minus_before t.negative) (term_tokens t.term) (small_front before (more_tokens terms) small)))
+    (more_fit k terms column (small_back before (more_tokens terms) small))
 
 -- entries that fit
 fracs_of : (n : ℕ) (form : List ℚ) → ((i : ℕ) → i < n → IsFrac (entry_of form i)) → AreFracs (take n form)
@@ -113,10 +113,10 @@ operand_small : (word : List ℕ) (ts : List Plain) → AreSmall (call word ts) 
 operand_small word ts small = small_front ts (PlainSign RightParen ∷ []) small.1.1
 
 first_small : (x y : List Plain) → AreSmall (pair x y) → AreSmall x
-first_small x y small = small_front x (PlainSign Comma ∷ [] ++ y) small
+first_small x y small = small_front x (PlainSign Comma ∷ []) (small_front (x ++ PlainSign Comma ∷ []) y small)
 
 second_small : (x y : List Plain) → AreSmall (pair x y) → AreSmall y
-second_small x y small = (small_back x (PlainSign Comma ∷ [] ++ y) small).1
+second_small x y small = small_back (x ++ PlainSign Comma ∷ []) y small
 
 short : (k : ℕ) (form : List ℚ) → length (take k form) ≤ k
 short zero form = omega arith
