@@ -1,6 +1,7 @@
 use super::*;
 use crn_formula::FunctionKind;
 use crn_fraction::Frac;
+use crn_token::Counted;
 use std::alloc::AllocError;
 use std::test::Fail;
 

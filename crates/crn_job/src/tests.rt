@@ -1,4 +1,5 @@
 use super::*;
+use crn_token::Counted;
 use std::alloc::AllocError;
 use std::test::Fail;
 

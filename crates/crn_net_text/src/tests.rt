@@ -1,4 +1,5 @@
 use super::*;
+use crn_token::Counted;
 use std::test::Fail;
 
 const MINIMUM: &[u8] =
