@@ -155,7 +155,7 @@ all_fracs zero (q ∷ p ∷ form) short fits = absurd (omega (arith, short))
 all_fracs (suc k) (q ∷ form) short fits = (fits.0.0, all_fracs k form (omega (arith, short)) (fits.0.1, fits.1))
 
 formula_fracs : (k n : ℕ) (e : Formula) → n ≤ k + 1 → IsOver n e → FitsText k e → HasFracs e
-formula_fracs k n (Lin form) few over fits = all_fracs k form (omega (arith, few, over)) fits.1
+formula_fracs k n (Lin form) few over fits = all_fracs k form (omega (arith, few, over)) (fits.1, fits.2)
 formula_fracs k n (Add a b) few over fits = (formula_fracs k n a few over.0 fits.0, formula_fracs k n b few over.1 fits.1)
 formula_fracs k n (Sub a b) few over fits = (formula_fracs k n a few over.0 fits.0, formula_fracs k n b few over.1 fits.1)
 formula_fracs k n (Scale q a) few over fits = (fits.0, formula_fracs k n a few over fits.1)

@@ -2,12 +2,12 @@
 use Rattle.std.proofs.Common.{◌≡◌, ℕ, ◌≤◌, List, [], length, None, Some, Err, refl, sym, ap, ap₂, ◌∙◌, subst}
 use Rattle.crn_fraction.specs.Rational.{ℚ}
 use Rattle.crn_token.specs.declared.Counted.{Counted}
+use Rattle.crn_grammar.specs.declared.error.TextError.{TextError}
+use Rattle.crn_grammar.specs.declared.error.TextError.TheVariants as error
 use Rattle.crn_grammar.specs.Table as grammar
+use Rattle.crn_grammar.specs.Reading as reading
 use Rattle.crn_formula.specs.Functions.{IsGivenByPieces}
 use Rattle.crn_function_text.specs.Grammar.{PlainFunction}
-use Rattle.crn_function_text.specs.declared.FunctionTextError.{FunctionTextError}
-use Rattle.crn_function_text.specs.declared.FunctionTextError.TheVariants as function
-use Rattle.crn_function_text.specs.Reading as function_text
 use Rattle.crn_net.specs.Network.{Network, IsNetwork, IsFeedForward, AreAmounts, StablyComputes, start, completed, encoded}
 use Rattle.crn_net.specs.declared.Flow.{Flow}
 use Rattle.crn_net.proofs.Settling.{confluent}
@@ -19,18 +19,14 @@ use Rattle.crn_segments.proofs.Runs.{steps_run}
 use Rattle.crn_completer.specs.Refusal.{completion_refusal}
 use Rattle.crn_completer.proofs.Fitting.{completion_fits}
 use Rattle.crn_job.specs.Grammar.{PlainJob}
-use Rattle.crn_job.specs.declared.JobError.{JobError}
-use Rattle.crn_job.specs.declared.JobError.TheVariants as job_error
-use Rattle.crn_job.specs.Reading as job_text
 use Rattle.crn_program.specs.Report.{OutputFits, run_report, refusal}
 use Rattle.crn_program.specs.Finding.{Outcome, OtherKind, RefusedSegment, Unfinished, NoValue, Compiled, Completed, Ran, Unmade, Bulked, Finding, WrongLine, PastLimit, Comes, status_of, text_of, status_of_step, step_words, text_of_outcome}
-use Rattle.crn_program.specs.Runs.{IsRefused, IsCompleted, IsFoundOf, IsFoundOfRun}
-use Rattle.crn_program.specs.Answer.{Says, IsCompiled, IsStoppedAt, IsFoundOfFunction, IsFoundOfJob, IsFoundOfHalves, IsFoundOfBulk, IsFoundInText, text_limit}
+use Rattle.crn_program.specs.Runs.{IsRefused, IsCompleted, IsOutcomeOfSegments, IsOutcomeOfRun}
+use Rattle.crn_program.specs.Answer.{Says, IsCompiled, IsRefusedCompletion, IsOutcomeOfFunction, IsOutcomeOfJob, IsOutcomeOfHalves, IsOutcomeOfBulk, IsFoundInText, text_limit}
 use Rattle.crn_program.specs.Bulk.{halves, halves_refusal}
 use Rattle.crn_bulk.specs.Generator.{bulk_job, bulk_number}
 use Rattle.crn_net.proofs.Completion.{run_end}
-use Rattle.crn_program.specs.Ending.{IsFoundFrom, IsFoundAt, IsFoundAfter, Tells, finding_of_line}
-use Rattle.crn_program.specs.Lines.{line_of_function, line_of_job}
+use Rattle.crn_program.specs.Ending.{IsOutcomeOfCompletion, IsOutcomeOfEnd, IsOutcomeOfBulkCompletion, Tells, finding_of_line}
 use Rattle.crn_program.specs.Value.{IsValue, IsNetworkOf}
 use Rattle.crn_program.specs.declared.status.Status.{Status}
 use Rattle.crn_program.specs.declared.status.Status.TheVariants as status
@@ -56,32 +52,32 @@ is_completed net value xs us c ok feeds given segments computes leads fits outpu
     }
 
 -- what comes of the completion from c comes of the segments that lead to c
-pub found_of : (net : Network) (value : ℚ) (xs : List ℚ) (us : List (List Flow)) (c : List ℚ) (o : Outcome) → IsNetwork net → IsFeedForward net → AreAmounts net xs → AreSegments us
-    → StablyComputes net xs value → StepsGo net (start net xs) us c → IsFoundFrom net c o → IsFoundOf net value (start net xs) us o
-found_of net value xs us c (Unfinished at) ok feeds given segments computes leads found = (c, leads, found)
-found_of net value xs us c NoValue ok feeds given segments computes leads found = (c, leads, found.0, found.1)
-found_of net value xs us c (Completed n d) ok feeds given segments computes leads found =
+pub outcome_of_segments : (net : Network) (value : ℚ) (xs : List ℚ) (us : List (List Flow)) (c : List ℚ) (o : Outcome) → IsNetwork net → IsFeedForward net → AreAmounts net xs → AreSegments us
+    → StablyComputes net xs value → StepsGo net (start net xs) us c → IsOutcomeOfCompletion net c o → IsOutcomeOfSegments net value (start net xs) us o
+outcome_of_segments net value xs us c (Unfinished at) ok feeds given segments computes leads found = (c, leads, found)
+outcome_of_segments net value xs us c NoValue ok feeds given segments computes leads found = (c, leads, found.0, found.1)
+outcome_of_segments net value xs us c (Completed n d) ok feeds given segments computes leads found =
     (found.0, rw found.1 (is_completed net value xs us c ok feeds given segments computes leads found.2 found.3))
-found_of net value xs us c _ ok feeds given segments computes leads found = absurd found
+outcome_of_segments net value xs us c _ ok feeds given segments computes leads found = absurd found
 
 -- ---- what is told of a job
 
 -- after its segments
 pub tells_of : (net : Network) (value : ℚ) (xs : List ℚ) (us : List (List Flow)) (p q : Progress) (s : Status) (text : List ℕ) → IsNetwork q.network → IsFeedForward net → AreAmounts net xs → StablyComputes net xs value
-    → p.network ≡ net → p.state ≡ start net xs → q.network ≡ p.network → StepsGo p.network p.state us q.state → AreSegments us → Tells (IsFoundFrom q.network q.state) s text → Tells (IsFoundOf net value (start net xs) us) s text
+    → p.network ≡ net → p.state ≡ start net xs → q.network ≡ p.network → StepsGo p.network p.state us q.state → AreSegments us → Tells (IsOutcomeOfCompletion q.network q.state) s text → Tells (IsOutcomeOfSegments net value (start net xs) us) s text
 tells_of net value xs us p q s text ok feeds amounts computes net_is state_is same leads segments tells =
     let whole : q.network ≡ net = same ∙ net_is in
     record {
       outcome = tells.outcome;
-      found = found_of net value xs us q.state tells.outcome (subst IsNetwork whole ok) feeds amounts segments computes
-          (subst (λ a. StepsGo net a us q.state) state_is (subst (λ n. StepsGo n p.state us q.state) net_is leads)) (subst (λ n. IsFoundFrom n q.state tells.outcome) whole tells.found);
+      found = outcome_of_segments net value xs us q.state tells.outcome (subst IsNetwork whole ok) feeds amounts segments computes
+          (subst (λ a. StepsGo net a us q.state) state_is (subst (λ n. StepsGo n p.state us q.state) net_is leads)) (subst (λ n. IsOutcomeOfCompletion n q.state tells.outcome) whole tells.found);
       status_is = tells.status_is;
       text_is = tells.text_is;
     }
 
 -- where a segment is refused
 pub tells_refused : (net : Network) (value : ℚ) (a : List ℚ) (us : List (List Flow)) (p : Progress) (t : ℕ) (e : StepError) (s : Status) (text : List ℕ) → p.network ≡ net → p.state ≡ a
-    → IsRefused p.network p.state us t e → s ≡ status_of_step e → text ≡ refusal (step_words t e) → Tells (IsFoundOf net value a us) s text
+    → IsRefused p.network p.state us t e → s ≡ status_of_step e → text ≡ refusal (step_words t e) → Tells (IsOutcomeOfSegments net value a us) s text
 tells_refused net value a us p t e s text net_is state_is refused status_is text_is = record {
   outcome = RefusedSegment t e;
   found = subst (λ a. IsRefused net a us t e) state_is (subst (λ n. IsRefused n p.state us t e) net_is refused);
@@ -90,51 +86,51 @@ tells_refused net value a us p t e s text net_is state_is refused status_is text
 }
 
 -- what comes of the segments in the network of a job's function comes of the job
-pub found_of_job : (job : PlainJob) (net : Network) (value : ℚ) (o : Outcome) → IsNetworkOf job.function net → IsValue job.function (encoded net.rails job.amounts) value
-    → IsFoundOf net value (start net job.amounts) job.segments o → IsFoundOfJob job o
-found_of_job job net value OtherKind net_is value_is found = absurd found
-found_of_job job net value o net_is value_is found = (net, value, net_is, value_is, found)
+pub outcome_of_job : (job : PlainJob) (net : Network) (value : ℚ) (o : Outcome) → IsNetworkOf job.function net → IsValue job.function (encoded net.rails job.amounts) value
+    → IsOutcomeOfSegments net value (start net job.amounts) job.segments o → IsOutcomeOfJob job o
+outcome_of_job job net value OtherKind net_is value_is found = absurd found
+outcome_of_job job net value o net_is value_is found = (net, value, net_is, value_is, found)
 
 pub tells_job : (job : PlainJob) (net : Network) (value : ℚ) (s : Status) (text : List ℕ) → IsNetworkOf job.function net → IsValue job.function (encoded net.rails job.amounts) value
-    → Tells (IsFoundOf net value (start net job.amounts) job.segments) s text → Tells (IsFoundOfJob job) s text
+    → Tells (IsOutcomeOfSegments net value (start net job.amounts) job.segments) s text → Tells (IsOutcomeOfJob job) s text
 tells_job job net value s text net_is value_is tells = record {
   outcome = tells.outcome;
-  found = found_of_job job net value tells.outcome net_is value_is tells.found;
+  found = outcome_of_job job net value tells.outcome net_is value_is tells.found;
   status_is = tells.status_is;
   text_is = tells.text_is;
 }
 
 -- of a job or a function of another kind
-pub tells_other_job : (job : PlainJob) (s : Status) (text : List ℕ) → IsGivenByPieces job.function.kind → s ≡ status.NotBuilt → text ≡ text_of_outcome OtherKind → Tells (IsFoundOfJob job) s text
+pub tells_other_job : (job : PlainJob) (s : Status) (text : List ℕ) → IsGivenByPieces job.function.kind → s ≡ status.NotBuilt → text ≡ text_of_outcome OtherKind → Tells (IsOutcomeOfJob job) s text
 tells_other_job job s text other status_is text_is = record { outcome = OtherKind; found = other; status_is = status_is; text_is = text_is }
 
-pub tells_other_function : (f : PlainFunction) (s : Status) (text : List ℕ) → IsGivenByPieces f.kind → s ≡ status.NotBuilt → text ≡ text_of_outcome OtherKind → Tells (IsFoundOfFunction f) s text
+pub tells_other_function : (f : PlainFunction) (s : Status) (text : List ℕ) → IsGivenByPieces f.kind → s ≡ status.NotBuilt → text ≡ text_of_outcome OtherKind → Tells (IsOutcomeOfFunction f) s text
 tells_other_function f s text other status_is text_is = record { outcome = OtherKind; found = other; status_is = status_is; text_is = text_is }
 
 -- of a function that is compiled
-pub tells_compiled : (f : PlainFunction) (net : Network) (text : List ℕ) → IsCompiled f net → text ≡ text_of_outcome (Compiled net) → Tells (IsFoundOfFunction f) status.Done text
+pub tells_compiled : (f : PlainFunction) (net : Network) (text : List ℕ) → IsCompiled f net → text ≡ text_of_outcome (Compiled net) → Tells (IsOutcomeOfFunction f) status.Done text
 tells_compiled f net text compiled text_is = record { outcome = Compiled net; found = compiled; status_is = refl; text_is = text_is }
 
 -- ---- what is told of a run
 
-pub found_of_run : (net : Network) (a : List ℚ) (us : List (List Flow)) (c : List ℚ) (o : Outcome) → AreSegments us → StepsGo net a us c → IsFoundAt net c o → IsFoundOfRun net a us o
-found_of_run net a us c NoValue segments leads found = (c, leads, found)
-found_of_run net a us c (Ran n d) segments leads found =
+pub outcome_of_run : (net : Network) (a : List ℚ) (us : List (List Flow)) (c : List ℚ) (o : Outcome) → AreSegments us → StepsGo net a us c → IsOutcomeOfEnd net c o → IsOutcomeOfRun net a us o
+outcome_of_run net a us c NoValue segments leads found = (c, leads, found)
+outcome_of_run net a us c (Ran n d) segments leads found =
     (found.0, rw found.1 (record { leads = leads; run = (steps_run net a us c segments leads).0; output_fits = found.2 }))
-found_of_run net a us c _ segments leads found = absurd found
+outcome_of_run net a us c _ segments leads found = absurd found
 
 pub tells_run : (net : Network) (a : List ℚ) (us : List (List Flow)) (p q : Progress) (s : Status) (text : List ℕ) → p.network ≡ net → p.state ≡ a → q.network ≡ p.network
-    → StepsGo p.network p.state us q.state → AreSegments us → Tells (IsFoundAt q.network q.state) s text → Tells (IsFoundOfRun net a us) s text
+    → StepsGo p.network p.state us q.state → AreSegments us → Tells (IsOutcomeOfEnd q.network q.state) s text → Tells (IsOutcomeOfRun net a us) s text
 tells_run net a us p q s text net_is state_is same leads segments tells = record {
   outcome = tells.outcome;
-  found = found_of_run net a us q.state tells.outcome segments (subst (λ a. StepsGo net a us q.state) state_is (subst (λ n. StepsGo n p.state us q.state) net_is leads))
-      (subst (λ n. IsFoundAt n q.state tells.outcome) (same ∙ net_is) tells.found);
+  found = outcome_of_run net a us q.state tells.outcome segments (subst (λ a. StepsGo net a us q.state) state_is (subst (λ n. StepsGo n p.state us q.state) net_is leads))
+      (subst (λ n. IsOutcomeOfEnd n q.state tells.outcome) (same ∙ net_is) tells.found);
   status_is = tells.status_is;
   text_is = tells.text_is;
 }
 
 -- of the state at its end, as it is read
-pub tells_ran : (net on : Network) (c d e : List ℚ) (text : List ℕ) → on ≡ net → d ≡ c → e ≡ c → OutputFits on.output d → text ≡ run_report on e → Tells (IsFoundAt net c) status.Done text
+pub tells_ran : (net on : Network) (c d e : List ℚ) (text : List ℕ) → on ≡ net → d ≡ c → e ≡ c → OutputFits on.output d → text ≡ run_report on e → Tells (IsOutcomeOfEnd net c) status.Done text
 tells_ran net on c d e text on_is d_is e_is fits text_is = record {
   outcome = Ran net c;
   found = (refl, refl, subst (λ m. OutputFits m.output c) on_is (subst (OutputFits on.output) d_is fits));
@@ -142,12 +138,12 @@ tells_ran net on c d e text on_is d_is e_is fits text_is = record {
   text_is = text_is ∙ ap₂ run_report on_is e_is;
 }
 
-pub tells_no_end : (net on : Network) (c d : List ℚ) (s : Status) (text : List ℕ) → on ≡ net → d ≡ c → (OutputFits on.output d → ⊥) → s ≡ status.TooBig → text ≡ text_of_outcome NoValue → Tells (IsFoundAt net c) s text
+pub tells_no_end : (net on : Network) (c d : List ℚ) (s : Status) (text : List ℕ) → on ≡ net → d ≡ c → (OutputFits on.output d → ⊥) → s ≡ status.TooBig → text ≡ text_of_outcome NoValue → Tells (IsOutcomeOfEnd net c) s text
 tells_no_end net on c d s text on_is d_is unfit status_is text_is =
     record { outcome = NoValue; found = subst (λ m. OutputFits m.output c → ⊥) on_is (subst (λ e. OutputFits on.output e → ⊥) d_is unfit); status_is = status_is; text_is = text_is }
 
 pub tells_refused_run : (net : Network) (a : List ℚ) (us : List (List Flow)) (p : Progress) (t : ℕ) (e : StepError) (s : Status) (text : List ℕ) → p.network ≡ net → p.state ≡ a
-    → IsRefused p.network p.state us t e → s ≡ status_of_step e → text ≡ refusal (step_words t e) → Tells (IsFoundOfRun net a us) s text
+    → IsRefused p.network p.state us t e → s ≡ status_of_step e → text ≡ refusal (step_words t e) → Tells (IsOutcomeOfRun net a us) s text
 tells_refused_run net a us p t e s text net_is state_is refused status_is text_is = record {
   outcome = RefusedSegment t e;
   found = subst (λ a. IsRefused net a us t e) state_is (subst (λ n. IsRefused n p.state us t e) net_is refused);
@@ -158,41 +154,41 @@ tells_refused_run net a us p t e s text net_is state_is refused status_is text_i
 -- ---- what is told of `bulk`
 
 -- what comes of the completion from c, after the segments that were drawn
-pub found_of_halves : (net : Network) (value : ℚ) (xs : List ℚ) (z n count : ℕ) (c : List ℚ) (o : Outcome) → IsNetwork net → IsFeedForward net → AreAmounts net xs → AreSegments (halves net z (start net xs))
+pub outcome_of_halves : (net : Network) (value : ℚ) (xs : List ℚ) (z n count : ℕ) (c : List ℚ) (o : Outcome) → IsNetwork net → IsFeedForward net → AreAmounts net xs → AreSegments (halves net z (start net xs))
     → StablyComputes net xs value → StepsGo net (start net xs) (halves net z (start net xs)) c → halves_refusal net z (start net xs) ≡ None → count ≡ length (halves net z (start net xs))
-    → IsFoundAfter n count net c o → IsFoundOfHalves net value (start net xs) z n o
-found_of_halves net value xs z n count c (Bulked m on segments d) ok feeds given segments_are computes leads fits counted (size, same, count_is, ends, finishes, output_fits) =
+    → IsOutcomeOfBulkCompletion n count net c o → IsOutcomeOfHalves net value (start net xs) z n o
+outcome_of_halves net value xs z n count c (Bulked m on segments d) ok feeds given segments_are computes leads fits counted (size, same, count_is, ends, finishes, output_fits) =
     (size, same, fits, count_is ∙ counted, rw ends (is_completed net value xs (halves net z (start net xs)) c ok feeds given segments_are computes leads finishes output_fits))
-found_of_halves net value xs z n count c (Unfinished at) ok feeds given segments_are computes leads fits counted found =
-    (fits, subst (λ d. IsStoppedAt net d (Unfinished at)) (run_end net _ (start net xs) c (steps_run net (start net xs) _ c segments_are leads).0) found)
-found_of_halves net value xs z n count c NoValue ok feeds given segments_are computes leads fits counted found =
-    (fits, subst (λ d. IsStoppedAt net d NoValue) (run_end net _ (start net xs) c (steps_run net (start net xs) _ c segments_are leads).0) found)
-found_of_halves net value xs z n count c _ ok feeds given segments_are computes leads fits counted found = absurd found
+outcome_of_halves net value xs z n count c (Unfinished at) ok feeds given segments_are computes leads fits counted found =
+    (fits, subst (λ d. IsRefusedCompletion net d (Unfinished at)) (run_end net _ (start net xs) c (steps_run net (start net xs) _ c segments_are leads).0) found)
+outcome_of_halves net value xs z n count c NoValue ok feeds given segments_are computes leads fits counted found =
+    (fits, subst (λ d. IsRefusedCompletion net d NoValue) (run_end net _ (start net xs) c (steps_run net (start net xs) _ c segments_are leads).0) found)
+outcome_of_halves net value xs z n count c _ ok feeds given segments_are computes leads fits counted found = absurd found
 
 pub tells_halved : (net : Network) (value : ℚ) (xs : List ℚ) (z n count : ℕ) (p q : Progress) (s : Status) (text : List ℕ) → IsNetwork q.network → IsFeedForward net → AreAmounts net xs → StablyComputes net xs value
     → p.network ≡ net → p.state ≡ start net xs → q.network ≡ p.network → count ≡ length (halves p.network z p.state) → halves_refusal p.network z p.state ≡ None → StepsGo p.network p.state (halves p.network z p.state) q.state
-    → AreSegments (halves p.network z p.state) → Tells (IsFoundAfter n count q.network q.state) s text → Tells (IsFoundOfHalves net value (start net xs) z n) s text
+    → AreSegments (halves p.network z p.state) → Tells (IsOutcomeOfBulkCompletion n count q.network q.state) s text → Tells (IsOutcomeOfHalves net value (start net xs) z n) s text
 tells_halved net value xs z n count p q s text ok feeds amounts computes net_is state_is same counted fits leads segments tells =
     let whole : q.network ≡ net = same ∙ net_is in
     let these : halves p.network z p.state ≡ halves net z (start net xs) = ap₂ (λ m a. halves m z a) net_is state_is in
     record {
       outcome = tells.outcome;
-      found = found_of_halves net value xs z n count q.state tells.outcome (subst IsNetwork whole ok) feeds amounts (subst AreSegments these segments) computes
+      found = outcome_of_halves net value xs z n count q.state tells.outcome (subst IsNetwork whole ok) feeds amounts (subst AreSegments these segments) computes
           (subst (λ us. StepsGo net (start net xs) us q.state) these (subst (λ a. StepsGo net a (halves p.network z p.state) q.state) state_is (subst (λ n. StepsGo n p.state (halves p.network z p.state) q.state) net_is leads)))
-          (sym (ap₂ (λ m a. halves_refusal m z a) net_is state_is) ∙ fits) (counted ∙ ap length these) (subst (λ m. IsFoundAfter n count m q.state tells.outcome) whole tells.found);
+          (sym (ap₂ (λ m a. halves_refusal m z a) net_is state_is) ∙ fits) (counted ∙ ap length these) (subst (λ m. IsOutcomeOfBulkCompletion n count m q.state tells.outcome) whole tells.found);
       status_is = tells.status_is;
       text_is = tells.text_is;
     }
 
 -- where a number of a step does not fit
 pub tells_unmade : (net : Network) (value : ℚ) (a : List ℚ) (z n : ℕ) (p : Progress) (r : ℕ) (s : Status) (text : List ℕ) → p.network ≡ net → p.state ≡ a → halves_refusal p.network z p.state ≡ Some r
-    → s ≡ status.TooBig → text ≡ text_of_outcome (Unmade r) → Tells (IsFoundOfHalves net value a z n) s text
+    → s ≡ status.TooBig → text ≡ text_of_outcome (Unmade r) → Tells (IsOutcomeOfHalves net value a z n) s text
 tells_unmade net value a z n p r s text net_is state_is refused status_is text_is =
     record { outcome = Unmade r; found = sym (ap₂ (λ m b. halves_refusal m z b) net_is state_is) ∙ refused; status_is = status_is; text_is = text_is }
 
 -- of the job that is drawn
 pub tells_bulk : (n : ℕ) (job : PlainJob) (z : ℕ) (net : Network) (value : ℚ) (s : Status) (text : List ℕ) → job ≡ bulk_job n → z ≡ bulk_number n → IsNetworkOf job.function net → IsValue job.function (encoded net.rails job.amounts) value
-    → Tells (IsFoundOfHalves net value (start net job.amounts) z n) s text → Tells (IsFoundOfBulk n) s text
+    → Tells (IsOutcomeOfHalves net value (start net job.amounts) z n) s text → Tells (IsOutcomeOfBulk n) s text
 tells_bulk n job z net value s text job_is number_is net_is value_is tells = record {
   outcome = tells.outcome;
   found = (
@@ -200,7 +196,7 @@ tells_bulk n job z net value s text job_is number_is net_is value_is tells = rec
     value,
     subst (λ j. IsNetworkOf j.function net) job_is net_is,
     subst (λ j. IsValue j.function (encoded net.rails j.amounts) value) job_is value_is,
-    subst (λ j. IsFoundOfHalves net value (start net j.amounts) (bulk_number n) n tells.outcome) job_is (subst (λ y. IsFoundOfHalves net value (start net job.amounts) y n tells.outcome) number_is tells.found),
+    subst (λ j. IsOutcomeOfHalves net value (start net j.amounts) (bulk_number n) n tells.outcome) job_is (subst (λ y. IsOutcomeOfHalves net value (start net job.amounts) y n tells.outcome) number_is tells.found),
   );
   status_is = tells.status_is;
   text_is = tells.text_is;
@@ -222,17 +218,11 @@ IsLineFound Right _ = ⊥
 some_same : {X : Type 0} (P : X → Type 0) (x y : X) → Some x ≡ Some y → P x → P y
 some_same P x y same p = let is : x ≡ y = cc same in subst P is p
 
-line_of_function_found : {X V : Type 0} (view : X → V) (e : FunctionTextError) (f : Finding) (Right : grammar.Answer V (Counted × ℕ) → Type 0)
-    → function_text.IsRight view (Err e) Right → finding_of_line (line_of_function e) ≡ Some f → IsLineFound Right f
-line_of_function_found view (function.Malformed n) f Right right is = some_same (IsLineFound Right) _ f is right
-line_of_function_found view (function.Limit what count) f Right right is = some_same (IsLineFound Right) _ f is right
-line_of_function_found view function.Memory f Right right is = absurd (cc is)
-
-line_of_job_found : {X V : Type 0} (view : X → V) (e : JobError) (f : Finding) (Right : grammar.Answer V (Counted × ℕ) → Type 0)
-    → job_text.IsRight view (Err e) Right → finding_of_line (line_of_job e) ≡ Some f → IsLineFound Right f
-line_of_job_found view (job_error.Malformed n) f Right right is = some_same (IsLineFound Right) _ f is right
-line_of_job_found view (job_error.Limit what count) f Right right is = some_same (IsLineFound Right) _ f is right
-line_of_job_found view job_error.Memory f Right right is = absurd (cc is)
+line_of_text_found : {X V : Type 0} (view : X → V) (e : TextError) (f : Finding) (Right : grammar.Answer V (Counted × ℕ) → Type 0)
+    → reading.IsRight view (Err e) Right → finding_of_line e ≡ Some f → IsLineFound Right f
+line_of_text_found view (error.Malformed n) f Right right is = some_same (IsLineFound Right) _ f is right
+line_of_text_found view (error.Limit what count) f Right right is = some_same (IsLineFound Right) _ f is right
+line_of_text_found view error.Memory f Right right is = absurd (cc is)
 
 line_found : {V : Type 0} (IsRight : List ℕ → grammar.Answer V (Counted × ℕ) → Type 0) (Found : V → Outcome → Type 0) (bytes : List ℕ) (f : Finding)
     → length bytes ≤ text_limit → IsLineFound (IsRight bytes) f → IsFoundInText IsRight Found bytes f
@@ -240,14 +230,8 @@ line_found IsRight Found bytes (WrongLine n) short found = (short, found)
 line_found IsRight Found bytes (PastLimit what count) short found = (short, found)
 line_found IsRight Found bytes _ short found = absurd found
 
-pub says_line_of_function : {X V : Type 0} (view : X → V) (IsRight : List ℕ → grammar.Answer V (Counted × ℕ) → Type 0) (Found : V → Outcome → Type 0) (bytes : List ℕ) (e : FunctionTextError) (s : Status) (text : List ℕ)
-    → length bytes ≤ text_limit → function_text.IsRight view (Err e) (IsRight bytes)
-    → (finding : Finding) × (finding_of_line (line_of_function e) ≡ Some finding) × (s ≡ status_of finding) × (text ≡ text_of finding) → Says (IsFoundInText IsRight Found bytes) s text
-says_line_of_function view IsRight Found bytes e s text short right (finding, is, status_is, text_is) =
-    record { finding = finding; found = line_found IsRight Found bytes finding short (line_of_function_found view e finding (IsRight bytes) right is); status_is = status_is; text_is = text_is }
-
-pub says_line_of_job : {X V : Type 0} (view : X → V) (IsRight : List ℕ → grammar.Answer V (Counted × ℕ) → Type 0) (Found : V → Outcome → Type 0) (bytes : List ℕ) (e : JobError) (s : Status) (text : List ℕ)
-    → length bytes ≤ text_limit → job_text.IsRight view (Err e) (IsRight bytes)
-    → (finding : Finding) × (finding_of_line (line_of_job e) ≡ Some finding) × (s ≡ status_of finding) × (text ≡ text_of finding) → Says (IsFoundInText IsRight Found bytes) s text
-says_line_of_job view IsRight Found bytes e s text short right (finding, is, status_is, text_is) =
-    record { finding = finding; found = line_found IsRight Found bytes finding short (line_of_job_found view e finding (IsRight bytes) right is); status_is = status_is; text_is = text_is }
+pub says_line_of_text : {X V : Type 0} (view : X → V) (IsRight : List ℕ → grammar.Answer V (Counted × ℕ) → Type 0) (Found : V → Outcome → Type 0) (bytes : List ℕ) (e : TextError) (s : Status) (text : List ℕ)
+    → length bytes ≤ text_limit → reading.IsRight view (Err e) (IsRight bytes)
+    → (finding : Finding) × (finding_of_line e ≡ Some finding) × (s ≡ status_of finding) × (text ≡ text_of finding) → Says (IsFoundInText IsRight Found bytes) s text
+says_line_of_text view IsRight Found bytes e s text short right (finding, is, status_is, text_is) =
+    record { finding = finding; found = line_found IsRight Found bytes finding short (line_of_text_found view e finding (IsRight bytes) right is); status_is = status_is; text_is = text_is }

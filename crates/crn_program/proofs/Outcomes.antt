@@ -16,9 +16,9 @@ use Rattle.crn_completer.specs.Refusal.{completion_refusal}
 use Rattle.crn_completer.specs.declared.CompletionTooBig.{CompletionTooBig}
 use Rattle.crn_program.specs.Report.{OutputFits}
 use Rattle.crn_program.specs.Finding.{Outcome, RefusedSegment, Unfinished, NoValue, Completed, Ran, Unmade, Bulked}
-use Rattle.crn_program.specs.Runs.{IsRefused, IsFoundOf, IsFoundOfRun}
+use Rattle.crn_program.specs.Runs.{IsRefused, IsOutcomeOfSegments, IsOutcomeOfRun}
 use Rattle.crn_program.specs.Bulk.{halves, halves_refusal}
-use Rattle.crn_program.specs.Answer.{IsFoundOfHalves}
+use Rattle.crn_program.specs.Answer.{IsOutcomeOfHalves}
 
 -- ---- where the given segments lead
 
@@ -133,33 +133,33 @@ bulk_finished net n count c b none fits =
 
 -- ---- there is one
 
-pub found_of_job : (net : Network) (value : ℚ) (a : List ℚ) (us : List (List Flow)) (o : Outcome) → IsFoundOf net value a us o → job_outcome net a us ≡ o
+pub job_outcome_is : (net : Network) (value : ℚ) (a : List ℚ) (us : List (List Flow)) (o : Outcome) → IsOutcomeOfSegments net value a us o → job_outcome net a us ≡ o
 unfolding job_outcome
-found_of_job net value a us (RefusedSegment t e) found = stopped _ net a us t e found
-found_of_job net value a us (Unfinished at) found = reached _ net a us found.0 found.1 ∙ unfinished net found.0 at found.2
-found_of_job net value a us NoValue found = reached _ net a us found.0 found.1 ∙ finished net found.0 false found.2 (unfit_is _ _ found.3)
-found_of_job net value a us (Completed n c) found =
+job_outcome_is net value a us (RefusedSegment t e) found = stopped _ net a us t e found
+job_outcome_is net value a us (Unfinished at) found = reached _ net a us found.0 found.1 ∙ unfinished net found.0 at found.2
+job_outcome_is net value a us NoValue found = reached _ net a us found.0 found.1 ∙ finished net found.0 false found.2 (unfit_is _ _ found.3)
+job_outcome_is net value a us (Completed n c) found =
     reached _ net a us c found.1.leads ∙ finished net c true found.1.finishes (fits_is _ _ found.1.output_fits) ∙ ap (λ m. Completed m c) (sym found.0)
-found_of_job net value a us _ found = absurd found
+job_outcome_is net value a us _ found = absurd found
 
-pub found_of_run : (net : Network) (a : List ℚ) (us : List (List Flow)) (o : Outcome) → IsFoundOfRun net a us o → run_outcome net a us ≡ o
+pub run_outcome_is : (net : Network) (a : List ℚ) (us : List (List Flow)) (o : Outcome) → IsOutcomeOfRun net a us o → run_outcome net a us ≡ o
 unfolding run_outcome
-found_of_run net a us (RefusedSegment t e) found = stopped _ net a us t e found
-found_of_run net a us NoValue found = reached _ net a us found.0 found.1 ∙ ran net found.0 false (unfit_is _ _ found.2)
-found_of_run net a us (Ran n c) found = reached _ net a us c found.1.leads ∙ ran net c true (fits_is _ _ found.1.output_fits) ∙ ap (λ m. Ran m c) (sym found.0)
-found_of_run net a us _ found = absurd found
+run_outcome_is net a us (RefusedSegment t e) found = stopped _ net a us t e found
+run_outcome_is net a us NoValue found = reached _ net a us found.0 found.1 ∙ ran net found.0 false (unfit_is _ _ found.2)
+run_outcome_is net a us (Ran n c) found = reached _ net a us c found.1.leads ∙ ran net c true (fits_is _ _ found.1.output_fits) ∙ ap (λ m. Ran m c) (sym found.0)
+run_outcome_is net a us _ found = absurd found
 
-pub found_of_halves : (net : Network) (value : ℚ) (a : List ℚ) (z n : ℕ) (o : Outcome) → IsFoundOfHalves net value a z n o → halves_outcome net a z n ≡ o
+pub halves_outcome_is : (net : Network) (value : ℚ) (a : List ℚ) (z n : ℕ) (o : Outcome) → IsOutcomeOfHalves net value a z n o → halves_outcome net a z n ≡ o
 unfolding halves_outcome
-found_of_halves net value a z n (Unmade r) found = ap (λ x. option_map_or (λ r. Unmade r) x (bulked_outcome net n (length (halves net z a)) (after_all net a (halves net z a)))) found
-found_of_halves net value a z n (Unfinished at) (fits, refused) =
+halves_outcome_is net value a z n (Unmade r) found = ap (λ x. option_map_or (λ r. Unmade r) x (bulked_outcome net n (length (halves net z a)) (after_all net a (halves net z a)))) found
+halves_outcome_is net value a z n (Unfinished at) (fits, refused) =
     ap (λ x. option_map_or (λ r. Unmade r) x (bulked_outcome net n (length (halves net z a)) (after_all net a (halves net z a)))) fits ∙ bulk_unfinished net n _ _ at refused
-found_of_halves net value a z n NoValue (fits, (none, unfit)) =
+halves_outcome_is net value a z n NoValue (fits, (none, unfit)) =
     ap (λ x. option_map_or (λ r. Unmade r) x (bulked_outcome net n (length (halves net z a)) (after_all net a (halves net z a)))) fits ∙ bulk_finished net n _ _ false none (unfit_is _ _ unfit)
-found_of_halves net value a z n (Bulked m on count c) (size, same, fits, count_is, is) =
+halves_outcome_is net value a z n (Bulked m on count c) (size, same, fits, count_is, is) =
     let ends : after_all net a (halves net z a) ≡ c = sym (run_end net (halves net z a) a c is.run) in
     ap (λ x. option_map_or (λ r. Unmade r) x (bulked_outcome net n (length (halves net z a)) (after_all net a (halves net z a)))) fits
     ∙ ap₂ (λ k d. bulked_outcome net n k d) (sym count_is) ends
     ∙ bulk_finished net n count c true is.finishes (fits_is _ _ is.output_fits)
     ∙ ap₂ (λ k on. Bulked k on count c) (sym size) (sym same)
-found_of_halves net value a z n _ found = absurd found.1
+halves_outcome_is net value a z n _ found = absurd found.1

@@ -43,12 +43,12 @@ use Rattle.crn_job.proofs.RunLaws.{run_places_can_end}
 use Rattle.crn_job.proofs.KeptJobs.{text_job, text_run_job}
 use Rattle.crn_bulk.specs.Generator.{bulk_formula, bulk_job, bulk_number}
 use Rattle.crn_bulk.proofs.BulkLaws.{bulk_fits, bulk_amounts_long, bulk_amounts_not_negative}
-use Rattle.crn_program.specs.Answer.{Answers, IsFound, IsFoundByText, IsFoundInText, IsFoundOfFunction, IsFoundOfJob, IsFoundOfRunJob, IsFoundOfBulk, IsFoundOfHalves, IsFunctionAnswer, IsJobAnswer, IsRunAnswer, text_limit}
+use Rattle.crn_program.specs.Answer.{Answers, IsFound, IsFoundByText, IsFoundInText, IsOutcomeOfFunction, IsOutcomeOfJob, IsOutcomeOfRunJob, IsOutcomeOfBulk, IsOutcomeOfHalves, IsFunctionAnswer, IsJobAnswer, IsRunAnswer, text_limit}
 use Rattle.crn_program.specs.Bulk.{drawn, half_flux, happens, half_turn, is_half_unfit, is_turn_unfit, halves_to, halves, halves_refusal_to, halves_refusal}
-use Rattle.crn_program.specs.Ending.{IsFoundFrom, IsFoundAt, IsFoundAfter}
+use Rattle.crn_program.specs.Ending.{IsOutcomeOfCompletion, IsOutcomeOfEnd, IsOutcomeOfBulkCompletion}
 use Rattle.crn_program.specs.Finding.{Outcome, OtherKind, RefusedSegment, Unfinished, NoValue, Compiled, Completed, Ran, Unmade, Bulked, Finding, NoCommand, LongText, WrongLine, PastLimit, Comes, status_of, text_of}
 use Rattle.crn_program.specs.Report.{OutputFits}
-use Rattle.crn_program.specs.Runs.{IsRefused, IsFoundOf}
+use Rattle.crn_program.specs.Runs.{IsRefused, IsOutcomeOfSegments}
 use Rattle.crn_program.specs.Value.{IsNetworkOf}
 use Rattle.crn_program.specs.Words.{name_of, IsRow, IsNoRow}
 use Rattle.crn_program.specs.declared.status.Status.{Status}
@@ -58,7 +58,7 @@ use Rattle.crn_program.specs.declared.words.Command.{Command}
 use Rattle.crn_program.specs.declared.words.Command.TheVariants.{OfText, Bulk}
 use Rattle.crn_program.proofs.Answering.{row_found}
 use Rattle.crn_program.proofs.Computing.{computes_value, job_amounts}
-use Rattle.crn_program.proofs.Found.{found_of, found_of_job, found_of_run, found_of_halves}
+use Rattle.crn_program.proofs.Found.{outcome_of_segments, outcome_of_job, outcome_of_run, outcome_of_halves}
 use Rattle.crn_program.proofs.Halving.{half_segment, half_refusal, odd_rests, turns, happens_present}
 use Rattle.crn_program.proofs.SmallCounts.{compiled_function}
 
@@ -96,25 +96,25 @@ fits_or_not : (e : Ends) (d : List ℚ) → OutputFits e d ⊎ (OutputFits e d �
 fits_or_not (Pair a b) d = ⊎_elim (λ k. inl k.1) (λ k. inr k.1) (is_frac_cases (amount d a -ℚ amount d b))
 fits_or_not (One a) d = inl tt
 
-comes_from : (net : Network) (c : List ℚ) → (o : Outcome) × IsFoundFrom net c o
+comes_from : (net : Network) (c : List ℚ) → (o : Outcome) × IsOutcomeOfCompletion net c o
 comes_from net c = go (completion_refusal net c) refl (fits_or_not net.output (completed net c))
   where
-    go : (r : Option CompletionTooBig) → completion_refusal net c ≡ r → OutputFits net.output (completed net c) ⊎ (OutputFits net.output (completed net c) → ⊥) → (o : Outcome) × IsFoundFrom net c o
+    go : (r : Option CompletionTooBig) → completion_refusal net c ≡ r → OutputFits net.output (completed net c) ⊎ (OutputFits net.output (completed net c) → ⊥) → (o : Outcome) × IsOutcomeOfCompletion net c o
     go (Some at) refused output = (Unfinished at, refused)
     go None fits (inl output) = (Completed net c, refl, refl, fits, output)
     go None fits (inr unfit) = (NoValue, fits, unfit)
 
-comes_at : (net : Network) (c : List ℚ) → (o : Outcome) × IsFoundAt net c o
+comes_at : (net : Network) (c : List ℚ) → (o : Outcome) × IsOutcomeOfEnd net c o
 comes_at net c = go (fits_or_not net.output c)
   where
-    go : OutputFits net.output c ⊎ (OutputFits net.output c → ⊥) → (o : Outcome) × IsFoundAt net c o
+    go : OutputFits net.output c ⊎ (OutputFits net.output c → ⊥) → (o : Outcome) × IsOutcomeOfEnd net c o
     go (inl fits) = (Ran net c, refl, refl, fits)
     go (inr unfit) = (NoValue, unfit)
 
-comes_after : (n count : ℕ) (net : Network) (c : List ℚ) → (o : Outcome) × IsFoundAfter n count net c o
+comes_after : (n count : ℕ) (net : Network) (c : List ℚ) → (o : Outcome) × IsOutcomeOfBulkCompletion n count net c o
 comes_after n count net c = go (completion_refusal net c) refl (fits_or_not net.output (completed net c))
   where
-    go : (r : Option CompletionTooBig) → completion_refusal net c ≡ r → OutputFits net.output (completed net c) ⊎ (OutputFits net.output (completed net c) → ⊥) → (o : Outcome) × IsFoundAfter n count net c o
+    go : (r : Option CompletionTooBig) → completion_refusal net c ≡ r → OutputFits net.output (completed net c) ⊎ (OutputFits net.output (completed net c) → ⊥) → (o : Outcome) × IsOutcomeOfBulkCompletion n count net c o
     go (Some at) refused output = (Unfinished at, refused)
     go None fits (inl output) = (Bulked n net count c, refl, refl, refl, refl, fits, output)
     go None fits (inr unfit) = (NoValue, fits, unfit)
@@ -122,11 +122,11 @@ comes_after n count net c = go (completion_refusal net c) refl (fits_or_not net.
 -- ---- what comes of a job, and of a run job
 
 comes_of_segments : (net : Network) (value : ℚ) (xs : List ℚ) (us : List (List Flow)) → IsNetwork net → IsFeedForward net → AreAmounts net xs → StablyComputes net xs value → AreSegments us
-    → (o : Outcome) × IsFoundOf net value (start net xs) us o
+    → (o : Outcome) × IsOutcomeOfSegments net value (start net xs) us o
 comes_of_segments net value xs us ok feeds amounts stably segments = go (leads net (start net xs) us)
   where
-    go : Leads net (start net xs) us → (o : Outcome) × IsFoundOf net value (start net xs) us o
-    go (inl (c, goes)) = let from = comes_from net c in (from.0, found_of net value xs us c from.0 ok feeds amounts segments stably goes from.1)
+    go : Leads net (start net xs) us → (o : Outcome) × IsOutcomeOfSegments net value (start net xs) us o
+    go (inl (c, goes)) = let from = comes_from net c in (from.0, outcome_of_segments net value xs us c from.0 ok feeds amounts segments stably goes from.1)
     go (inr (t, e, refused)) = (RefusedSegment t e, refused)
 
 -- a function is given by pieces, or has a network
@@ -135,23 +135,23 @@ kinds k (ByFormula e) = inr (layout k e, refl)
 kinds k (ByPieces pieces) = inl tt
 kinds k (ByLeast forms) = inr (direct_layout k forms, refl)
 
-comes_of_job : (job : PlainJob) → IsFittingJob job → (o : Outcome) × IsFoundOfJob job o
+comes_of_job : (job : PlainJob) → IsFittingJob job → (o : Outcome) × IsOutcomeOfJob job o
 comes_of_job job fit = go (kinds job.function.variables job.function.kind)
   where
-    go : IsGivenByPieces job.function.kind ⊎ ((net : Network) × IsNetworkOf job.function net) → (o : Outcome) × IsFoundOfJob job o
+    go : IsGivenByPieces job.function.kind ⊎ ((net : Network) × IsNetworkOf job.function net) → (o : Outcome) × IsOutcomeOfJob job o
     go (inl pieces) = (OtherKind, pieces)
     go (inr (net, is)) =
         let (k, kind) = (job.function.variables, job.function.kind) in
         let amounts = job_amounts net job.function job.amounts is fit.long fit.not_negative in
         let (value, value_is, stably) = computes_value net job.function job.amounts (computes k kind net fit.function is) amounts in
         let (o, found) = comes_of_segments net value job.amounts job.segments (is_valid k kind net fit.function is).network (feeds_forward k kind net fit.function is) amounts stably fit.segments in
-        (o, found_of_job job net value o is value_is found)
+        (o, outcome_of_job job net value o is value_is found)
 
-comes_of_run : (job : PlainRunJob) → IsFittingRunJob job → (o : Outcome) × IsFoundOfRunJob job o
+comes_of_run : (job : PlainRunJob) → IsFittingRunJob job → (o : Outcome) × IsOutcomeOfRunJob job o
 comes_of_run job fit = go (leads job.network job.state job.segments)
   where
-    go : Leads job.network job.state job.segments → (o : Outcome) × IsFoundOfRunJob job o
-    go (inl (c, goes)) = let at = comes_at job.network c in (at.0, found_of_run job.network job.state job.segments c at.0 fit.segments goes at.1)
+    go : Leads job.network job.state job.segments → (o : Outcome) × IsOutcomeOfRunJob job o
+    go (inl (c, goes)) = let at = comes_at job.network c in (at.0, outcome_of_run job.network job.state job.segments c at.0 fit.segments goes at.1)
     go (inr (t, e, refused)) = (RefusedSegment t e, refused)
 
 -- ---- what comes in `bulk`
@@ -208,7 +208,7 @@ module _ (net : Network) (ok : IsNetwork net) where
       let all = goes_append net a before c turn (after_all net c turn) goes on in
       (subst (StepsGo net a (before ++ turn)) (goes_after net a (before ++ turn) (after_all net c turn) all) all, segments_append before turn segments also)
 
-comes_of_bulk : (n : ℕ) → 1 ≤ n → n ≤ 1000 → (o : Outcome) × IsFoundOfBulk n o
+comes_of_bulk : (n : ℕ) → 1 ≤ n → n ≤ 1000 → (o : Outcome) × IsOutcomeOfBulk n o
 comes_of_bulk n some few =
     let job = bulk_job n in
     let f = job.function in
@@ -221,14 +221,14 @@ comes_of_bulk n some few =
     (o, net, value, is, value_is, found)
   where
     go : (net : Network) (value : ℚ) (xs : List ℚ) → IsNetwork net → IsFeedForward net → AreAmounts net xs → StablyComputes net xs value
-        → (r : Option ℕ) → halves_refusal net (bulk_number n) (start net xs) ≡ r → (o : Outcome) × IsFoundOfHalves net value (start net xs) (bulk_number n) n o
+        → (r : Option ℕ) → halves_refusal net (bulk_number n) (start net xs) ≡ r → (o : Outcome) × IsOutcomeOfHalves net value (start net xs) (bulk_number n) n o
     go net value xs ok feeds amounts stably (Some r) refused = (Unmade r, refused)
     go net value xs ok feeds amounts stably None fits =
         let z = bulk_number n in
         let us = halves net z (start net xs) in
         let (goes, segments) = halves_go net ok z (length net.reactions) (start net xs) (start_is_state net xs amounts.not_negative) (omega arith) fits in
         let on = comes_after n (length us) net (after_all net (start net xs) us) in
-        (on.0, found_of_halves net value xs z n (length us) (after_all net (start net xs) us) on.0 ok feeds amounts segments stably goes fits refl on.1)
+        (on.0, outcome_of_halves net value xs z n (length us) (after_all net (start net xs) us) on.0 ok feeds amounts segments stably goes fits refl on.1)
 
 -- ---- what is found of a text
 
@@ -241,21 +241,21 @@ comes_of_text {V} IsRight Found bytes a right comes = ⊎_elim (λ short. within
     within short (grammar.Malformed n) right = (WrongLine n, short, right)
     within short (grammar.Limited (what, count)) right = (PastLimit what count, short, right)
 
-comes_of_function : (bytes : List ℕ) (f : PlainFunction) → IsFunctionAnswer bytes (grammar.Read f) → (o : Outcome) × IsFoundOfFunction f o
+comes_of_function : (bytes : List ℕ) (f : PlainFunction) → IsFunctionAnswer bytes (grammar.Read f) → (o : Outcome) × IsOutcomeOfFunction f o
 comes_of_function bytes f right = go (kinds f.variables f.kind)
   where
-    go : IsGivenByPieces f.kind ⊎ ((net : Network) × IsNetworkOf f net) → (o : Outcome) × IsFoundOfFunction f o
+    go : IsGivenByPieces f.kind ⊎ ((net : Network) × IsNetworkOf f net) → (o : Outcome) × IsOutcomeOfFunction f o
     go (inl pieces) = (OtherKind, pieces)
     go (inr (net, is)) = (Compiled net, compiled_function bytes f net right is)
 
 found_by_text : (command : TextCommand) (bytes : List ℕ) → (f : Finding) × IsFoundByText command bytes f
 found_by_text Compile bytes =
-    comes_of_text IsFunctionAnswer IsFoundOfFunction bytes _ (answer_is function_table function_can_end line_number (end_of bytes) (plain_lines bytes)) (comes_of_function bytes)
+    comes_of_text IsFunctionAnswer IsOutcomeOfFunction bytes _ (answer_is function_table function_can_end line_number (end_of bytes) (plain_lines bytes)) (comes_of_function bytes)
 found_by_text Complete bytes =
-    comes_of_text IsJobAnswer IsFoundOfJob bytes _ (answer_is job_table job_places_can_end line_number (end_of bytes) (plain_lines bytes))
+    comes_of_text IsJobAnswer IsOutcomeOfJob bytes _ (answer_is job_table job_places_can_end line_number (end_of bytes) (plain_lines bytes))
     (λ job right. comes_of_job job (text_job (plain_lines bytes) job right.0 right.1))
 found_by_text RunText bytes =
-    comes_of_text IsRunAnswer IsFoundOfRunJob bytes _ (answer_is run_table run_places_can_end line_number (end_of bytes) (plain_lines bytes))
+    comes_of_text IsRunAnswer IsOutcomeOfRunJob bytes _ (answer_is run_table run_places_can_end line_number (end_of bytes) (plain_lines bytes))
     (λ job right. comes_of_run job (text_run_job (plain_lines bytes) job right.0 right.1))
 
 -- ---- words

@@ -2,10 +2,10 @@
 use Rattle.std.specs.Prelude.{ℕ, ◌≡◌, ◌<◌, ◌≤◌, List, length, None, Some}
 use Rattle.crn_fraction.specs.Rational.{ℚ}
 use Rattle.crn_token.specs.declared.Counted.{Counted}
-use Rattle.crn_token.specs.Plain.{plain_lines}
+use Rattle.crn_token.specs.Plain.{plain_lines, line_number, end_of}
 use Rattle.crn_grammar.specs.Table as grammar
 use Rattle.crn_formula.specs.Functions.{IsGivenByPieces}
-use Rattle.crn_function_text.specs.Grammar.{PlainFunction, function_table, line_number, end_of}
+use Rattle.crn_function_text.specs.Grammar.{PlainFunction, function_table}
 use Rattle.crn_net.specs.Network.{Network, start, encoded, after_all, completed}
 use Rattle.crn_net_text.specs.NetworkText.{network_text}
 use Rattle.crn_net_text.specs.Grammar.{network_table}
@@ -16,7 +16,7 @@ use Rattle.crn_completer.specs.Refusal.{completion_refusal}
 use Rattle.crn_program.specs.Bulk.{halves, halves_refusal}
 use Rattle.crn_program.specs.Report.{OutputFits}
 use Rattle.crn_program.specs.Finding.{Outcome, OtherKind, Compiled, Unfinished, NoValue, Unmade, Bulked, Finding, NoCommand, LongText, WrongLine, PastLimit, Comes, status_of, text_of}
-use Rattle.crn_program.specs.Runs.{IsCompleted, IsFoundOf, IsFoundOfRun}
+use Rattle.crn_program.specs.Runs.{IsCompleted, IsOutcomeOfSegments, IsOutcomeOfRun}
 use Rattle.crn_program.specs.Value.{IsValue, IsNetworkOf}
 use Rattle.crn_compile.specs.Networks.{ComputesFunction}
 use Rattle.crn_program.specs.Words.{IsRow, IsNoRow}
@@ -53,40 +53,40 @@ pub record IsCompiled (f : PlainFunction) (net : Network) : Type 0 where
   pub reads_back : IsNetworkAnswer (network_text net) (grammar.Read net)
 
 -- `compile`
-abbrev pub IsFoundOfFunction : PlainFunction → Outcome → Type 0
-IsFoundOfFunction f OtherKind = IsGivenByPieces f.kind
-IsFoundOfFunction f (Compiled net) = IsCompiled f net
-IsFoundOfFunction f _ = ⊥
+abbrev pub IsOutcomeOfFunction : PlainFunction → Outcome → Type 0
+IsOutcomeOfFunction f OtherKind = IsGivenByPieces f.kind
+IsOutcomeOfFunction f (Compiled net) = IsCompiled f net
+IsOutcomeOfFunction f _ = ⊥
 
 -- `complete`: what comes of the job's segments in the network of its function, from the start with its amounts on
-abbrev pub IsFoundOfJob : PlainJob → Outcome → Type 0
-IsFoundOfJob job OtherKind = IsGivenByPieces job.function.kind
-IsFoundOfJob job outcome =
+abbrev pub IsOutcomeOfJob : PlainJob → Outcome → Type 0
+IsOutcomeOfJob job OtherKind = IsGivenByPieces job.function.kind
+IsOutcomeOfJob job outcome =
     (net : Network) × (value : ℚ) × IsNetworkOf job.function net × IsValue job.function (encoded net.rails job.amounts) value
-    × IsFoundOf net value (start net job.amounts) job.segments outcome
+    × IsOutcomeOfSegments net value (start net job.amounts) job.segments outcome
 
 -- `run`: what comes of the segments from the given state on
-abbrev pub IsFoundOfRunJob : PlainRunJob → Outcome → Type 0
-IsFoundOfRunJob job = IsFoundOfRun job.network job.state job.segments
+abbrev pub IsOutcomeOfRunJob : PlainRunJob → Outcome → Type 0
+IsOutcomeOfRunJob job = IsOutcomeOfRun job.network job.state job.segments
 
 -- what comes of the completion from c, where it is refused
-abbrev pub IsStoppedAt : Network → List ℚ → Outcome → Type 0
-IsStoppedAt net c (Unfinished at) = completion_refusal net c ≡ Some at
-IsStoppedAt net c NoValue = (completion_refusal net c ≡ None) × (OutputFits net.output (completed net c) → ⊥)
-IsStoppedAt net c _ = ⊥
+abbrev pub IsRefusedCompletion : Network → List ℚ → Outcome → Type 0
+IsRefusedCompletion net c (Unfinished at) = completion_refusal net c ≡ Some at
+IsRefusedCompletion net c NoValue = (completion_refusal net c ≡ None) × (OutputFits net.output (completed net c) → ⊥)
+IsRefusedCompletion net c _ = ⊥
 
 -- what comes of the segments that are drawn after z, from a on, and of the completion after them, where the network computes this value; in `bulk` of size n
-abbrev pub IsFoundOfHalves : Network → ℚ → List ℚ → (z n : ℕ) → Outcome → Type 0
-IsFoundOfHalves net value a z n (Unmade r) = halves_refusal net z a ≡ Some r
-IsFoundOfHalves net value a z n (Bulked m on count c) =
+abbrev pub IsOutcomeOfHalves : Network → ℚ → List ℚ → (z n : ℕ) → Outcome → Type 0
+IsOutcomeOfHalves net value a z n (Unmade r) = halves_refusal net z a ≡ Some r
+IsOutcomeOfHalves net value a z n (Bulked m on count c) =
     (m ≡ n) × (on ≡ net) × (halves_refusal net z a ≡ None) × (count ≡ length (halves net z a)) × IsCompleted net value a (halves net z a) c
-IsFoundOfHalves net value a z n outcome = (halves_refusal net z a ≡ None) × IsStoppedAt net (after_all net a (halves net z a)) outcome
+IsOutcomeOfHalves net value a z n outcome = (halves_refusal net z a ≡ None) × IsRefusedCompletion net (after_all net a (halves net z a)) outcome
 
 -- `bulk` of size n: what comes of the formula, the amounts and the segments that are drawn
-abbrev pub IsFoundOfBulk : ℕ → Outcome → Type 0
-IsFoundOfBulk n outcome =
+abbrev pub IsOutcomeOfBulk : ℕ → Outcome → Type 0
+IsOutcomeOfBulk n outcome =
     (net : Network) × (value : ℚ) × IsNetworkOf (bulk_job n).function net × IsValue (bulk_job n).function (encoded net.rails (bulk_job n).amounts) value
-    × IsFoundOfHalves net value (start net (bulk_job n).amounts) (bulk_number n) n outcome
+    × IsOutcomeOfHalves net value (start net (bulk_job n).amounts) (bulk_number n) n outcome
 
 -- ---- what is found of a text
 
@@ -99,20 +99,20 @@ IsFoundInText IsRight Found bytes (PastLimit what count) = (length bytes ≤ tex
 IsFoundInText {V} IsRight Found bytes (Comes outcome) = (length bytes ≤ text_limit) × (v : V) × IsRight bytes (grammar.Read v) × Found v outcome
 
 -- of a command that reads no text
-abbrev pub IsFoundInNothing : (Outcome → Type 0) → List ℕ → Finding → Type 0
-IsFoundInNothing Found bytes (Comes outcome) = Found outcome
-IsFoundInNothing Found bytes _ = ⊥
+abbrev pub IsFoundWithoutText : (Outcome → Type 0) → List ℕ → Finding → Type 0
+IsFoundWithoutText Found bytes (Comes outcome) = Found outcome
+IsFoundWithoutText Found bytes _ = ⊥
 
 -- ---- every command
 
 abbrev pub IsFoundByText : TextCommand → List ℕ → Finding → Type 0
-IsFoundByText Compile = IsFoundInText IsFunctionAnswer IsFoundOfFunction
-IsFoundByText Complete = IsFoundInText IsJobAnswer IsFoundOfJob
-IsFoundByText Run = IsFoundInText IsRunAnswer IsFoundOfRunJob
+IsFoundByText Compile = IsFoundInText IsFunctionAnswer IsOutcomeOfFunction
+IsFoundByText Complete = IsFoundInText IsJobAnswer IsOutcomeOfJob
+IsFoundByText Run = IsFoundInText IsRunAnswer IsOutcomeOfRunJob
 
 abbrev pub IsFoundBy : Command → List ℕ → Finding → Type 0
 IsFoundBy (OfText command) = IsFoundByText command
-IsFoundBy (Bulk n) = IsFoundInNothing (IsFoundOfBulk n)
+IsFoundBy (Bulk n) = IsFoundWithoutText (IsOutcomeOfBulk n)
 
 -- what is found of the words, where these bytes came
 abbrev pub IsFound : List (List ℕ) → List ℕ → Finding → Type 0

@@ -37,12 +37,12 @@ pub record IsCompleted (net : Network) (value : ℚ) (a : List ℚ) (us : List (
   pub fluxes : (r : ℕ) → 1 ≤ r → r ≤ length net.reactions → total us r +ℚ total (completion net c) r ≡ total (completion net a) r
 
 -- what comes of segments from a on, and of the completion after them, where the network computes this value
-abbrev pub IsFoundOf : Network → ℚ → List ℚ → List (List Flow) → Outcome → Type 0
-IsFoundOf net value a us (RefusedSegment t e) = IsRefused net a us t e
-IsFoundOf net value a us (Unfinished at) = (c : List ℚ) × StepsGo net a us c × (completion_refusal net c ≡ Some at)
-IsFoundOf net value a us NoValue = (c : List ℚ) × StepsGo net a us c × (completion_refusal net c ≡ None) × (OutputFits net.output (completed net c) → ⊥)
-IsFoundOf net value a us (Completed n c) = (n ≡ net) × IsCompleted net value a us c
-IsFoundOf net value a us _ = ⊥
+abbrev pub IsOutcomeOfSegments : Network → ℚ → List ℚ → List (List Flow) → Outcome → Type 0
+IsOutcomeOfSegments net value a us (RefusedSegment t e) = IsRefused net a us t e
+IsOutcomeOfSegments net value a us (Unfinished at) = (c : List ℚ) × StepsGo net a us c × (completion_refusal net c ≡ Some at)
+IsOutcomeOfSegments net value a us NoValue = (c : List ℚ) × StepsGo net a us c × (completion_refusal net c ≡ None) × (OutputFits net.output (completed net c) → ⊥)
+IsOutcomeOfSegments net value a us (Completed n c) = (n ≡ net) × IsCompleted net value a us c
+IsOutcomeOfSegments net value a us _ = ⊥
 
 -- The segments are a run from a to c, and what the output is there fits.
 pub record IsRan (net : Network) (a : List ℚ) (us : List (List Flow)) (c : List ℚ) : Type 0 where
@@ -51,8 +51,8 @@ pub record IsRan (net : Network) (a : List ℚ) (us : List (List Flow)) (c : Lis
   pub output_fits : OutputFits net.output c
 
 -- what comes of segments from a on, and of nothing after them
-abbrev pub IsFoundOfRun : Network → List ℚ → List (List Flow) → Outcome → Type 0
-IsFoundOfRun net a us (RefusedSegment t e) = IsRefused net a us t e
-IsFoundOfRun net a us NoValue = (c : List ℚ) × StepsGo net a us c × (OutputFits net.output c → ⊥)
-IsFoundOfRun net a us (Ran n c) = (n ≡ net) × IsRan net a us c
-IsFoundOfRun net a us _ = ⊥
+abbrev pub IsOutcomeOfRun : Network → List ℚ → List (List Flow) → Outcome → Type 0
+IsOutcomeOfRun net a us (RefusedSegment t e) = IsRefused net a us t e
+IsOutcomeOfRun net a us NoValue = (c : List ℚ) × StepsGo net a us c × (OutputFits net.output c → ⊥)
+IsOutcomeOfRun net a us (Ran n c) = (n ≡ net) × IsRan net a us c
+IsOutcomeOfRun net a us _ = ⊥

@@ -6,11 +6,11 @@ ghost use Rattle.crn_net.specs.Network.{IsNetwork, AreAmounts, IsFeedForward, St
 ghost use Rattle.crn_segments.specs.Flows.{IsSegment};
 ghost use Rattle.crn_segments.specs.Steps.{AreSegments, StepsGo};
 ghost use Rattle.crn_completer.specs.Refusal.{lacks};
-ghost use Rattle.crn_program.specs.Answer.{IsFoundOfBulk, IsFoundOfHalves};
+ghost use Rattle.crn_program.specs.Answer.{IsOutcomeOfBulk, IsOutcomeOfHalves};
 ghost use Rattle.crn_program.specs.Bulk.{happens, half_flux, half_turn, is_half_unfit, is_turn_unfit, halves, halves_refusal};
-ghost use Rattle.crn_program.specs.Ending.{Tells, IsFoundAfter};
+ghost use Rattle.crn_program.specs.Ending.{Tells, IsOutcomeOfBulkCompletion};
 
-use crate::complete::{Ending, finish};
+use crate::complete::{finish, refused_completion};
 use crate::networks::compiled;
 use crate::reply::{Reply, refused};
 use crate::report::bulk_report;
@@ -28,7 +28,7 @@ use std::alloc::{AllocError, Global};
 pub(crate) fn bulk(alloc: Global, size: u32) -> Result<Reply, AllocError>
     requires some { 1 ≤ size }
     requires few { size ≤ 1000 }
-    ensures { IfOk result (λ reply. Tells (IsFoundOfBulk size) reply.status reply.text.items) }
+    ensures { IfOk result (λ reply. Tells (IsOutcomeOfBulk size) reply.status reply.text.items) }
 {
     let (job, number) = bulk_job(alloc, size)?;
     let Job {
@@ -51,7 +51,7 @@ fn run_answer(
     requires amounts { AreAmounts network.now amounts.now }
     requires feed_forward { IsFeedForward network.now }
     requires small { number < 65537 }
-    ensures { (value : ℚ) → StablyComputes network.now amounts.now value → IfOk result (λ reply. Tells (IsFoundOfHalves network.now value (start network.now amounts.now) number size) reply.status reply.text.items) }
+    ensures { (value : ℚ) → StablyComputes network.now amounts.now value → IfOk result (λ reply. Tells (IsOutcomeOfHalves network.now value (start network.now amounts.now) number size) reply.status reply.text.items) }
 {
     let mut replay = Replay::new(alloc, network, start(alloc, network, amounts)?)?;
     match halve_all(&mut replay, number) {
@@ -71,12 +71,12 @@ fn completion_answer(
     made: u32,
 ) -> Result<Reply, AllocError>
     ensures valid { IsNetwork replay.old.network }
-    ensures answer { IfOk result (λ reply. Tells (IsFoundAfter size made replay.old.network replay.old.state) reply.status reply.text.items) }
+    ensures answer { IfOk result (λ reply. Tells (IsOutcomeOfBulkCompletion size made replay.old.network replay.old.state) reply.status reply.text.items) }
 {
     let network = replay.network();
     let mut completer = Completer::new(alloc, network)?;
-    match finish(alloc, replay, &mut completer)? {
-        Ending::Value(value) => Ok(Reply {
+    match finish(replay, &mut completer) {
+        Ok(value) => Ok(Reply {
             status: Status::Done,
             text: bulk_report(
                 alloc,
@@ -88,7 +88,7 @@ fn completion_answer(
                 value,
             )?,
         }),
-        Ending::Refused(reply) => Ok(reply),
+        Err(why) => refused_completion(alloc, why),
     }
 }
 

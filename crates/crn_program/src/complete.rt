@@ -6,9 +6,10 @@ ghost use Rattle.crn_net.specs.Network.{IsNetwork, AreAmounts, AreNotNegative, I
 ghost use Rattle.crn_function_text.specs.Reading.{function_of};
 ghost use Rattle.crn_job.specs.Grammar.{amount_count};
 ghost use Rattle.crn_job.specs.Reading.{job_of};
-ghost use Rattle.crn_program.specs.Answer.{Says, IsJobAnswer, IsFoundOfJob, IsFoundInText, text_limit};
-ghost use Rattle.crn_program.specs.Ending.{Tells, IsFoundFrom, Finishes};
-ghost use Rattle.crn_program.specs.Runs.{IsFoundOf};
+ghost use Rattle.crn_program.specs.Answer.{Says, IsJobAnswer, IsOutcomeOfJob, IsFoundInText, text_limit};
+ghost use Rattle.crn_program.specs.Ending.{Tells, IsOutcomeOfCompletion, Finishes, outcome_of};
+ghost use Rattle.crn_program.specs.Finding.{status_of_outcome, text_of_outcome};
+ghost use Rattle.crn_program.specs.Runs.{IsOutcomeOfSegments};
 
 use crate::networks::network_of;
 use crate::reading::refused_lines;
@@ -27,11 +28,11 @@ use std::alloc::{AllocError, Global};
 /// What `complete` answers to a text.
 pub(crate) fn complete(alloc: Global, bytes: &[u8]) -> Result<Reply, AllocError>
     requires { length bytes.now ≤ text_limit }
-    ensures { IfOk result (λ reply. Says (IsFoundInText IsJobAnswer IsFoundOfJob bytes.now) reply.status reply.text.items) }
+    ensures { IfOk result (λ reply. Says (IsFoundInText IsJobAnswer IsOutcomeOfJob bytes.now) reply.status reply.text.items) }
 {
     match read_job(alloc, bytes) {
         Ok(job) => job_answer(alloc, job),
-        Err(error) => refused_lines(alloc, error.into()),
+        Err(error) => refused_lines(alloc, error),
     }
 }
 
@@ -39,7 +40,7 @@ pub(crate) fn complete(alloc: Global, bytes: &[u8]) -> Result<Reply, AllocError>
 fn job_answer(alloc: Global, job: Job) -> Result<Reply, AllocError>
     requires long { length job.amounts.items ≡ amount_count (function_of job.function) }
     requires not_negative { AreNotNegative job.amounts.items }
-    ensures { IfOk result (λ reply. Tells (IsFoundOfJob (job_of job)) reply.status reply.text.items) }
+    ensures { IfOk result (λ reply. Tells (IsOutcomeOfJob (job_of job)) reply.status reply.text.items) }
 {
     let Job {
         function,
@@ -61,7 +62,7 @@ fn run_answer(
 ) -> Result<Reply, AllocError>
     requires amounts { AreAmounts network.now amounts.now }
     requires feed_forward { IsFeedForward network.now }
-    ensures { (value : ℚ) → StablyComputes network.now amounts.now value → IfOk result (λ reply. Tells (IsFoundOf network.now value (start network.now amounts.now) segments.now) reply.status reply.text.items) }
+    ensures { (value : ℚ) → StablyComputes network.now amounts.now value → IfOk result (λ reply. Tells (IsOutcomeOfSegments network.now value (start network.now amounts.now) segments.now) reply.status reply.text.items) }
 {
     let mut replay = Replay::new(alloc, network, start(alloc, network, amounts)?)?;
     match replay_all(&mut replay, segments) {
@@ -73,13 +74,13 @@ fn run_answer(
 // What is answered after the given segments: the report of the completion from here on.
 fn completion_answer(alloc: Global, replay: &mut Replay<'_>) -> Result<Reply, AllocError>
     ensures valid { IsNetwork replay.old.network }
-    ensures answer { IfOk result (λ reply. Tells (IsFoundFrom replay.old.network replay.old.state) reply.status reply.text.items) }
+    ensures answer { IfOk result (λ reply. Tells (IsOutcomeOfCompletion replay.old.network replay.old.state) reply.status reply.text.items) }
 {
     let network = replay.network();
     let mut report = begin_report(alloc, network, replay.state())?;
     let mut completer = Completer::new(alloc, network)?;
-    match finish(alloc, replay, &mut completer)? {
-        Ending::Value(value) => {
+    match finish(replay, &mut completer) {
+        Ok(value) => {
             end_report(
                 &mut report,
                 network,
@@ -92,33 +93,47 @@ fn completion_answer(alloc: Global, replay: &mut Replay<'_>) -> Result<Reply, Al
                 text: report.into_bytes(),
             })
         }
-        Ending::Refused(reply) => Ok(reply),
+        Err(why) => refused_completion(alloc, why),
     }
 }
 
-/// How a completion ends: with the value of the output, or with a refusal.
-#[derive(Debug, Drop)]
-pub(crate) enum Ending {
-    Value(Frac),
-    Refused(Reply),
+/// Why a completion has no value.
+#[derive(Clone, Copy)]
+pub(crate) enum Unfinished {
+    /// A number of it does not fit.
+    Completion(CompletionTooBig),
+    /// It ends, and the value of the output there does not fit.
+    Value,
 }
 
-/// Completes the replay, with the completer's flows.
+/// Completes the replay, with the completer's flows, and answers the value of the output at its end.
 pub(crate) fn finish(
-    alloc: Global,
     replay: &mut Replay<'_>,
     completer: &mut Completer,
-) -> Result<Ending, AllocError>
+) -> Result<Frac, Unfinished>
     requires { length replay.old.network.reactions ≤ completer.old.room }
-    ensures ends { IfOk result (Finishes replay.old.network replay.old.state completer.new.flows replay.new.state) }
+    ensures ends { Finishes replay.old.network replay.old.state completer.new.flows replay.new.state result }
     ensures network { replay.new.network ≡ replay.old.network }
 {
-    if let Err(CompletionTooBig { reaction, species }) = completer.complete(replay) {
-        let why = format!(in alloc; "too big in completion of reaction {reaction} at S{species}")?;
-        return Ok(Ending::Refused(refused(alloc, Status::TooBig, why.as_str())?));
+    if let Err(error) = completer.complete(replay) {
+        return Err(Unfinished::Completion(error));
     }
     match value_of(replay.network(), replay.state()) {
-        Ok(value) => Ok(Ending::Value(value)),
-        Err(TooBig) => Ok(Ending::Refused(refused(alloc, Status::TooBig, "too big value")?)),
+        Ok(value) => Ok(value),
+        Err(TooBig) => Err(Unfinished::Value),
+    }
+}
+
+/// What is answered where a completion has no value.
+pub(crate) fn refused_completion(alloc: Global, why: Unfinished) -> Result<Reply, AllocError>
+    ensures { IfOk result (λ reply. (reply.status ≡ status_of_outcome (outcome_of why)) × (reply.text.items ≡ text_of_outcome (outcome_of why))) }
+{
+    match why {
+        Unfinished::Completion(CompletionTooBig { reaction, species }) => {
+            let words =
+                format!(in alloc; "too big in completion of reaction {reaction} at S{species}")?;
+            refused(alloc, Status::TooBig, words.as_str())
+        }
+        Unfinished::Value => refused(alloc, Status::TooBig, "too big value"),
     }
 }
