@@ -17,7 +17,7 @@ use Rattle.crn_direct.proofs.LayoutLaws as direct
 use Rattle.crn_direct.proofs.Sizes as direct_sizes
 use Rattle.crn_net.specs.Limits.{IsValid}
 use Rattle.crn_net.specs.Reactions.{EachCountOn}
-use Rattle.crn_net.proofs.Ends.{some_species}
+use Rattle.crn_net.proofs.EndsSpecies.{some_species}
 use Rattle.crn_formula.specs.Numbers.{HasKindFracs}
 use Rattle.crn_dual.proofs.Counts.{layout_counts}
 use Rattle.crn_direct.proofs.Counts.{direct_counts}

@@ -21,4 +21,4 @@ pub mod MinimumRun
 pub mod Causes
 pub mod FewReactions
 pub mod TakersTable
-pub mod Ends
+pub mod EndsSpecies

@@ -27,7 +27,7 @@ use Rattle.crn_net_text.specs.Reading.{AreNamed, IsFramed, IsFine, AreFew, IsLow
 use Rattle.crn_net_text.proofs.Found.{both, ends_found, one_found, reaction_found}
 use Rattle.crn_token.proofs.Options.{some_alike, then_found, map_found, if_found, else_found}
 use Rattle.crn_net_text.proofs.Left.{left_here, left}
-use Rattle.crn_net.proofs.Ends.{some_species}
+use Rattle.crn_net.proofs.EndsSpecies.{some_species}
 
 -- ---- names
 or_false : (x y : Bool) → (x || y) ≡ false → (x ≡ false) × (y ≡ false)

@@ -1,5 +1,5 @@
 -- What is told of the completion from a state.
-use Rattle.std.proofs.Common.{◌≡◌, ℕ, List, ◌++◌, None, Some, refl, sym, ap, ap₂, ◌∙◌, subst, append_assoc}
+use Rattle.std.proofs.Common.{◌≡◌, ℕ, List, ◌++◌, None, Some, refl, sym, ap, ap₂, ◌∙◌, subst, inl, inr, append_assoc}
 use Rattle.std.specs.Prelude.{codes, Ok}
 use Rattle.std.specs.List.{flat_map}
 use Rattle.crn_fraction.specs.Rational.{ℚ}
@@ -13,8 +13,8 @@ use Rattle.crn_program.specs.declared.status.Status.{Status}
 use Rattle.crn_program.specs.declared.status.Status.TheVariants as status
 use Rattle.crn_program.specs.Report.{OutputFits, line, size_line, state_lines, segment_line, output_lines, bulk_report}
 use Rattle.crn_program.specs.Finding.{Outcome, NoValue, Completed, Bulked, status_of_outcome, text_of_outcome}
-use Rattle.crn_program.specs.Answer.{IsRefusedCompletion}
-use Rattle.crn_program.specs.Ending.{IsOutcomeOfCompletion, IsOutcomeOfBulkCompletion, Finishes, Tells, outcome_of}
+use Rattle.crn_program.specs.Runs.{IsRefusedCompletion}
+use Rattle.crn_program.specs.Ending.{IsOutcomeOfCompletion, Finishes, Tells, outcome_of}
 
 -- ---- how the completion from c ends
 
@@ -31,23 +31,20 @@ pub finished : (net : Network) (c d : List ℚ) (fs : List Flow) (v : ℚ) → c
     → OutputFits net.output d → v ≡ value_at net.output (amount d) → Finishes net c fs d (Ok v)
 finished net c d fs v cause all run fits is = (cause, all, ends_at net c d fs all run, fits, is)
 
--- ---- what `complete` tells of it
+-- ---- what is told of it
 
-stopped_from : (net : Network) (c : List ℚ) (o : Outcome) → IsRefusedCompletion net c o → IsOutcomeOfCompletion net c o
-stopped_from net c (Completed n d) stopped = absurd stopped
-stopped_from net c o stopped = stopped
+-- where it has no value
+pub tells_stopped : (done : Outcome) (net : Network) (c : List ℚ) (why : Unfinished) (s : Status) (text : List ℕ) → IsRefusedCompletion net c (outcome_of why) → s ≡ status_of_outcome (outcome_of why)
+    → text ≡ text_of_outcome (outcome_of why) → Tells (IsOutcomeOfCompletion done net c) s text
+tells_stopped done net c why s text refused status_is is = record { outcome = outcome_of why; found = inr refused; status_is = status_is; text_is = is }
 
--- where the completion has no value
-pub tells_stopped : (net : Network) (c : List ℚ) (why : Unfinished) (s : Status) (text : List ℕ) → IsRefusedCompletion net c (outcome_of why) → s ≡ status_of_outcome (outcome_of why) → text ≡ text_of_outcome (outcome_of why)
-    → Tells (IsOutcomeOfCompletion net c) s text
-tells_stopped net c why s text stopped status_is is = record { outcome = outcome_of why; found = stopped_from net c (outcome_of why) stopped; status_is = status_is; text_is = is }
-
+-- in `complete`
 pub tells_completed : (net : Network) (c d : List ℚ) (fs : List Flow) (v : ℚ) (front out text : List ℕ) → Finishes net c fs d (Ok v) → front ≡ size_line net ++ state_lines net c → text ≡ out
-    → out ≡ front ++ ((line (codes "completion") ++ flat_map segment_line (each_alone fs)) ++ output_lines net.output d) → Tells (IsOutcomeOfCompletion net c) status.Done text
+    → out ≡ front ++ ((line (codes "completion") ++ flat_map segment_line (each_alone fs)) ++ output_lines net.output d) → Tells (IsOutcomeOfCompletion (Completed net c) net c) status.Done text
 tells_completed net c d fs v front out text (cause, all, ending, fits, value_is) front_is text_is is =
     record {
       outcome = Completed net c;
-      found = (refl, refl, cause, subst (OutputFits net.output) ending fits);
+      found = inl (refl, cause, subst (OutputFits net.output) ending fits);
       status_is = refl;
       text_is =
           text_is ∙ is ∙ ap (λ l. l ++ ((line (codes "completion") ++ flat_map segment_line (each_alone fs)) ++ output_lines net.output d)) front_is
@@ -59,21 +56,11 @@ tells_completed net c d fs v front out text (cause, all, ending, fits, value_is)
     joined : (a b c d e : List ℕ) → (a ++ b) ++ ((c ++ d) ++ e) ≡ a ++ (b ++ (c ++ (d ++ e)))
     joined a b c d e = append_assoc a b ((c ++ d) ++ e) ∙ ap (λ l. a ++ (b ++ l)) (append_assoc c d e)
 
--- ---- what `bulk` tells of it
-
-stopped_after : (n count : ℕ) (net : Network) (c : List ℚ) (o : Outcome) → IsRefusedCompletion net c o → IsOutcomeOfBulkCompletion n count net c o
-stopped_after n count net c (Bulked m on segments d) stopped = absurd stopped
-stopped_after n count net c o stopped = stopped
-
-pub tells_stopped_bulk : (n count : ℕ) (net : Network) (c : List ℚ) (why : Unfinished) (s : Status) (text : List ℕ) → IsRefusedCompletion net c (outcome_of why) → s ≡ status_of_outcome (outcome_of why) → text ≡ text_of_outcome (outcome_of why)
-    → Tells (IsOutcomeOfBulkCompletion n count net c) s text
-tells_stopped_bulk n count net c why s text stopped status_is is =
-    record { outcome = outcome_of why; found = stopped_after n count net c (outcome_of why) stopped; status_is = status_is; text_is = is }
-
-pub tells_bulked : (n count : ℕ) (net : Network) (c d : List ℚ) (fs : List Flow) (v : ℚ) (text : List ℕ) → Finishes net c fs d (Ok v) → text ≡ bulk_report n net count (each_alone fs) d → Tells (IsOutcomeOfBulkCompletion n count net c) status.Done text
+-- in `bulk`
+pub tells_bulked : (n count : ℕ) (net : Network) (c d : List ℚ) (fs : List Flow) (v : ℚ) (text : List ℕ) → Finishes net c fs d (Ok v) → text ≡ bulk_report n net count (each_alone fs) d → Tells (IsOutcomeOfCompletion (Bulked n net count c) net c) status.Done text
 tells_bulked n count net c d fs v text (cause, all, ending, fits, value_is) is = record {
   outcome = Bulked n net count c;
-  found = (refl, refl, refl, refl, cause, subst (OutputFits net.output) ending fits);
+  found = inl (refl, cause, subst (OutputFits net.output) ending fits);
   status_is = refl;
   text_is = is ∙ ap₂ (λ us e. bulk_report n net count us e) all ending;
 }

@@ -13,7 +13,7 @@ use Rattle.crn_job.specs.Grammar.{PlainJob}
 use Rattle.crn_job.specs.RunGrammar.{PlainRunJob}
 use Rattle.crn_bulk.specs.Generator.{bulk_job, bulk_number}
 use Rattle.crn_program.specs.Finding.{Outcome, OtherKind, RefusedSegment, Unfinished, NoValue, Compiled, Completed, Ran, Finding, Comes, status_of, status_of_outcome, status_of_step, Unmade, Bulked}
-use Rattle.crn_program.specs.Runs.{IsOutcomeOfSegments}
+use Rattle.crn_program.specs.Runs.{IsRefusedCompletion, IsOutcomeOfSegments}
 use Rattle.crn_program.specs.Answer.{Answers, IsFound, IsFoundBy, IsFoundInText, IsFoundWithoutText, IsOutcomeOfFunction, IsOutcomeOfJob, IsOutcomeOfRunJob, IsOutcomeOfHalves, IsOutcomeOfBulk, IsFunctionAnswer, IsJobAnswer, IsRunAnswer, text_limit}
 use Rattle.crn_program.specs.Statuses.{IsOfRun}
 use Rattle.crn_program.specs.Words.{IsRow}
@@ -51,12 +51,15 @@ step_of_run (step.NotPresent r s) = inr (inl refl)
 step_of_run (step.TooBig s) = inr (inr refl)
 step_of_run (step.TakesMore s) = inr (inl refl)
 
+of_refused : (net : Network) (c : List ℚ) (o : Outcome) → IsRefusedCompletion net c o → IsOfRun (status_of_outcome o)
+of_refused net c (Unfinished at) refused = inr (inr refl)
+of_refused net c NoValue refused = inr (inr refl)
+of_refused net c _ refused = absurd refused
+
 of_segments : (net : Network) (value : ℚ) (a : List ℚ) (us : List (List Flow)) (o : Outcome) → IsOutcomeOfSegments net value a us o → IsOfRun (status_of_outcome o)
 of_segments net value a us (RefusedSegment t e) found = step_of_run e
-of_segments net value a us (Unfinished at) found = inr (inr refl)
-of_segments net value a us NoValue found = inr (inr refl)
 of_segments net value a us (Completed n c) found = inl refl
-of_segments net value a us _ found = absurd found
+of_segments net value a us o (c, leads, refused) = of_refused net c o refused
 
 of_job : (job : PlainJob) (o : Outcome) → ¬ IsGivenByPieces job.function.kind → IsOutcomeOfJob job o → IsOfRun (status_of_outcome o)
 of_job job OtherKind other found = absurd (other found)

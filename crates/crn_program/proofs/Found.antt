@@ -1,5 +1,5 @@
 -- What comes of a job, from what comes of the state to which its segments lead, and what is said of a text.
-use Rattle.std.proofs.Common.{◌≡◌, ℕ, ◌≤◌, List, [], length, None, Some, Err, refl, sym, ap, ap₂, ◌∙◌, subst}
+use Rattle.std.proofs.Common.{◌≡◌, ℕ, ◌≤◌, List, [], length, None, Some, Err, refl, sym, ap, ap₂, ◌∙◌, subst, inl, inr}
 use Rattle.crn_fraction.specs.Rational.{ℚ}
 use Rattle.crn_token.specs.declared.Counted.{Counted}
 use Rattle.crn_grammar.specs.declared.error.TextError.{TextError}
@@ -21,12 +21,12 @@ use Rattle.crn_completer.proofs.Fitting.{completion_fits}
 use Rattle.crn_job.specs.Grammar.{PlainJob}
 use Rattle.crn_program.specs.Report.{OutputFits, run_report, refusal}
 use Rattle.crn_program.specs.Finding.{Outcome, OtherKind, RefusedSegment, Unfinished, NoValue, Compiled, Completed, Ran, Unmade, Bulked, Finding, WrongLine, PastLimit, Comes, status_of, text_of, status_of_step, step_words, text_of_outcome}
-use Rattle.crn_program.specs.Runs.{IsRefused, IsCompleted, IsOutcomeOfSegments, IsOutcomeOfRun}
-use Rattle.crn_program.specs.Answer.{Says, IsCompiled, IsRefusedCompletion, IsOutcomeOfFunction, IsOutcomeOfJob, IsOutcomeOfHalves, IsOutcomeOfBulk, IsFoundInText, text_limit}
+use Rattle.crn_program.specs.Runs.{IsRefused, IsCompleted, IsRefusedCompletion, IsOutcomeOfSegments, IsOutcomeOfRun}
+use Rattle.crn_program.specs.Answer.{Says, IsCompiled, IsOutcomeOfFunction, IsOutcomeOfJob, IsOutcomeOfHalves, IsOutcomeOfBulk, IsFoundInText, text_limit}
 use Rattle.crn_program.specs.Bulk.{halves, halves_refusal}
 use Rattle.crn_bulk.specs.Generator.{bulk_job, bulk_number}
 use Rattle.crn_net.proofs.Completion.{run_end}
-use Rattle.crn_program.specs.Ending.{IsOutcomeOfCompletion, IsOutcomeOfEnd, IsOutcomeOfBulkCompletion, Tells, finding_of_line}
+use Rattle.crn_program.specs.Ending.{IsOutcomeOfCompletion, IsOutcomeOfEnd, Tells, finding_of_line}
 use Rattle.crn_program.specs.Value.{IsValue, IsNetworkOf}
 use Rattle.crn_program.specs.declared.status.Status.{Status}
 use Rattle.crn_program.specs.declared.status.Status.TheVariants as status
@@ -51,26 +51,30 @@ is_completed net value xs us c ok feeds given segments computes leads fits outpu
       fluxes = (confluent net ok feeds (start net xs) (start_is_state net xs given.not_negative)).same_flux us c run;
     }
 
+-- a refused completion comes of the segments that lead to c
+refused_after : (net : Network) (value : ℚ) (a : List ℚ) (us : List (List Flow)) (c : List ℚ) (o : Outcome) → StepsGo net a us c → IsRefusedCompletion net c o → IsOutcomeOfSegments net value a us o
+refused_after net value a us c (RefusedSegment t e) leads refused = absurd refused
+refused_after net value a us c (Completed n d) leads refused = absurd refused
+refused_after net value a us c o leads refused = (c, leads, refused)
+
 -- what comes of the completion from c comes of the segments that lead to c
 pub outcome_of_segments : (net : Network) (value : ℚ) (xs : List ℚ) (us : List (List Flow)) (c : List ℚ) (o : Outcome) → IsNetwork net → IsFeedForward net → AreAmounts net xs → AreSegments us
-    → StablyComputes net xs value → StepsGo net (start net xs) us c → IsOutcomeOfCompletion net c o → IsOutcomeOfSegments net value (start net xs) us o
-outcome_of_segments net value xs us c (Unfinished at) ok feeds given segments computes leads found = (c, leads, found)
-outcome_of_segments net value xs us c NoValue ok feeds given segments computes leads found = (c, leads, found.0, found.1)
-outcome_of_segments net value xs us c (Completed n d) ok feeds given segments computes leads found =
-    (found.0, rw found.1 (is_completed net value xs us c ok feeds given segments computes leads found.2 found.3))
-outcome_of_segments net value xs us c _ ok feeds given segments computes leads found = absurd found
+    → StablyComputes net xs value → StepsGo net (start net xs) us c → IsOutcomeOfCompletion (Completed net c) net c o → IsOutcomeOfSegments net value (start net xs) us o
+outcome_of_segments net value xs us c o ok feeds given segments computes leads (inl (is, fits, output)) =
+    subst (IsOutcomeOfSegments net value (start net xs) us) (sym is) (refl, is_completed net value xs us c ok feeds given segments computes leads fits output)
+outcome_of_segments net value xs us c o ok feeds given segments computes leads (inr refused) = refused_after net value (start net xs) us c o leads refused
 
 -- ---- what is told of a job
 
 -- after its segments
 pub tells_of : (net : Network) (value : ℚ) (xs : List ℚ) (us : List (List Flow)) (p q : Progress) (s : Status) (text : List ℕ) → IsNetwork q.network → IsFeedForward net → AreAmounts net xs → StablyComputes net xs value
-    → p.network ≡ net → p.state ≡ start net xs → q.network ≡ p.network → StepsGo p.network p.state us q.state → AreSegments us → Tells (IsOutcomeOfCompletion q.network q.state) s text → Tells (IsOutcomeOfSegments net value (start net xs) us) s text
+    → p.network ≡ net → p.state ≡ start net xs → q.network ≡ p.network → StepsGo p.network p.state us q.state → AreSegments us → Tells (IsOutcomeOfCompletion (Completed q.network q.state) q.network q.state) s text → Tells (IsOutcomeOfSegments net value (start net xs) us) s text
 tells_of net value xs us p q s text ok feeds amounts computes net_is state_is same leads segments tells =
     let whole : q.network ≡ net = same ∙ net_is in
     record {
       outcome = tells.outcome;
       found = outcome_of_segments net value xs us q.state tells.outcome (subst IsNetwork whole ok) feeds amounts segments computes
-          (subst (λ a. StepsGo net a us q.state) state_is (subst (λ n. StepsGo n p.state us q.state) net_is leads)) (subst (λ n. IsOutcomeOfCompletion n q.state tells.outcome) whole tells.found);
+          (subst (λ a. StepsGo net a us q.state) state_is (subst (λ n. StepsGo n p.state us q.state) net_is leads)) (subst (λ n. IsOutcomeOfCompletion (Completed n q.state) n q.state tells.outcome) whole tells.found);
       status_is = tells.status_is;
       text_is = tells.text_is;
     }
@@ -153,21 +157,26 @@ tells_refused_run net a us p t e s text net_is state_is refused status_is text_i
 
 -- ---- what is told of `bulk`
 
--- what comes of the completion from c, after the segments that were drawn
+-- a refused completion from c, after the segments that were drawn
+refused_after_halves : (net : Network) (value : ℚ) (a : List ℚ) (z n : ℕ) (c : List ℚ) (o : Outcome) → AreSegments (halves net z a) → StepsGo net a (halves net z a) c → halves_refusal net z a ≡ None
+    → IsRefusedCompletion net c o → IsOutcomeOfHalves net value a z n o
+refused_after_halves net value a z n c (Unmade r) segments leads fits refused = absurd refused
+refused_after_halves net value a z n c (Bulked m on count d) segments leads fits refused = absurd refused
+refused_after_halves net value a z n c o segments leads fits refused =
+    (fits, subst (λ d. IsRefusedCompletion net d o) (run_end net _ a c (steps_run net a _ c segments leads).0) refused)
+
+-- what comes of the completion from c, after them
 pub outcome_of_halves : (net : Network) (value : ℚ) (xs : List ℚ) (z n count : ℕ) (c : List ℚ) (o : Outcome) → IsNetwork net → IsFeedForward net → AreAmounts net xs → AreSegments (halves net z (start net xs))
     → StablyComputes net xs value → StepsGo net (start net xs) (halves net z (start net xs)) c → halves_refusal net z (start net xs) ≡ None → count ≡ length (halves net z (start net xs))
-    → IsOutcomeOfBulkCompletion n count net c o → IsOutcomeOfHalves net value (start net xs) z n o
-outcome_of_halves net value xs z n count c (Bulked m on segments d) ok feeds given segments_are computes leads fits counted (size, same, count_is, ends, finishes, output_fits) =
-    (size, same, fits, count_is ∙ counted, rw ends (is_completed net value xs (halves net z (start net xs)) c ok feeds given segments_are computes leads finishes output_fits))
-outcome_of_halves net value xs z n count c (Unfinished at) ok feeds given segments_are computes leads fits counted found =
-    (fits, subst (λ d. IsRefusedCompletion net d (Unfinished at)) (run_end net _ (start net xs) c (steps_run net (start net xs) _ c segments_are leads).0) found)
-outcome_of_halves net value xs z n count c NoValue ok feeds given segments_are computes leads fits counted found =
-    (fits, subst (λ d. IsRefusedCompletion net d NoValue) (run_end net _ (start net xs) c (steps_run net (start net xs) _ c segments_are leads).0) found)
-outcome_of_halves net value xs z n count c _ ok feeds given segments_are computes leads fits counted found = absurd found
+    → IsOutcomeOfCompletion (Bulked n net count c) net c o → IsOutcomeOfHalves net value (start net xs) z n o
+outcome_of_halves net value xs z n count c o ok feeds given segments computes leads fits counted (inl (is, finishes, output)) =
+    subst (IsOutcomeOfHalves net value (start net xs) z n) (sym is)
+    (refl, refl, fits, counted, is_completed net value xs (halves net z (start net xs)) c ok feeds given segments computes leads finishes output)
+outcome_of_halves net value xs z n count c o ok feeds given segments computes leads fits counted (inr refused) = refused_after_halves net value (start net xs) z n c o segments leads fits refused
 
 pub tells_halved : (net : Network) (value : ℚ) (xs : List ℚ) (z n count : ℕ) (p q : Progress) (s : Status) (text : List ℕ) → IsNetwork q.network → IsFeedForward net → AreAmounts net xs → StablyComputes net xs value
     → p.network ≡ net → p.state ≡ start net xs → q.network ≡ p.network → count ≡ length (halves p.network z p.state) → halves_refusal p.network z p.state ≡ None → StepsGo p.network p.state (halves p.network z p.state) q.state
-    → AreSegments (halves p.network z p.state) → Tells (IsOutcomeOfBulkCompletion n count q.network q.state) s text → Tells (IsOutcomeOfHalves net value (start net xs) z n) s text
+    → AreSegments (halves p.network z p.state) → Tells (IsOutcomeOfCompletion (Bulked n q.network count q.state) q.network q.state) s text → Tells (IsOutcomeOfHalves net value (start net xs) z n) s text
 tells_halved net value xs z n count p q s text ok feeds amounts computes net_is state_is same counted fits leads segments tells =
     let whole : q.network ≡ net = same ∙ net_is in
     let these : halves p.network z p.state ≡ halves net z (start net xs) = ap₂ (λ m a. halves m z a) net_is state_is in
@@ -175,7 +184,7 @@ tells_halved net value xs z n count p q s text ok feeds amounts computes net_is 
       outcome = tells.outcome;
       found = outcome_of_halves net value xs z n count q.state tells.outcome (subst IsNetwork whole ok) feeds amounts (subst AreSegments these segments) computes
           (subst (λ us. StepsGo net (start net xs) us q.state) these (subst (λ a. StepsGo net a (halves p.network z p.state) q.state) state_is (subst (λ n. StepsGo n p.state (halves p.network z p.state) q.state) net_is leads)))
-          (sym (ap₂ (λ m a. halves_refusal m z a) net_is state_is) ∙ fits) (counted ∙ ap length these) (subst (λ m. IsOutcomeOfBulkCompletion n count m q.state tells.outcome) whole tells.found);
+          (sym (ap₂ (λ m a. halves_refusal m z a) net_is state_is) ∙ fits) (counted ∙ ap length these) (subst (λ m. IsOutcomeOfCompletion (Bulked n m count q.state) m q.state tells.outcome) whole tells.found);
       status_is = tells.status_is;
       text_is = tells.text_is;
     }

@@ -16,7 +16,7 @@ use Rattle.crn_completer.specs.Refusal.{completion_refusal}
 use Rattle.crn_completer.specs.declared.CompletionTooBig.{CompletionTooBig}
 use Rattle.crn_program.specs.Report.{OutputFits}
 use Rattle.crn_program.specs.Finding.{Outcome, RefusedSegment, Unfinished, NoValue, Completed, Ran, Unmade, Bulked}
-use Rattle.crn_program.specs.Runs.{IsRefused, IsOutcomeOfSegments, IsOutcomeOfRun}
+use Rattle.crn_program.specs.Runs.{IsRefused, IsRefusedCompletion, IsOutcomeOfSegments, IsOutcomeOfRun}
 use Rattle.crn_program.specs.Bulk.{halves, halves_refusal}
 use Rattle.crn_program.specs.Answer.{IsOutcomeOfHalves}
 
@@ -71,13 +71,9 @@ unfit_is (One a) d unfit = absurd (unfit tt)
 
 -- ---- the outcome
 
--- of the completion from c
-completed_outcome : Network → List ℚ → Outcome
-completed_outcome net c = option_map_or (λ at. Unfinished at) (completion_refusal net c) (cond (output_fits net.output (completed net c)) (Completed net c) NoValue)
-
--- of the completion from c, in `bulk` of size n after so many segments
-bulked_outcome : Network → (n count : ℕ) → List ℚ → Outcome
-bulked_outcome net n count c = option_map_or (λ at. Unfinished at) (completion_refusal net c) (cond (output_fits net.output (completed net c)) (Bulked n net count c) NoValue)
+-- of the completion from c: this, where it ends with a value that fits
+finished_outcome : Outcome → Network → List ℚ → Outcome
+finished_outcome done net c = option_map_or (λ at. Unfinished at) (completion_refusal net c) (cond (output_fits net.output (completed net c)) done NoValue)
 
 -- of c itself
 ran_outcome : Network → List ℚ → Outcome
@@ -90,7 +86,7 @@ outcome of_state (Stopped t e) = RefusedSegment t e
 
 -- what comes of segments from a on, and of the completion after them
 pub job_outcome : Network → List ℚ → List (List Flow) → Outcome
-job_outcome net a us = outcome (completed_outcome net) (walk net a 0 us)
+job_outcome net a us = outcome (λ c. finished_outcome (Completed net c) net c) (walk net a 0 us)
 
 -- what comes of segments from a on alone
 pub run_outcome : Network → List ℚ → List (List Flow) → Outcome
@@ -104,15 +100,18 @@ stopped : (of_state : List ℚ → Outcome) (net : Network) (a : List ℚ) (us :
 unfolding outcome
 stopped of_state net a us t e refused = ap (outcome of_state) (walk_refused net a us t e refused)
 
--- the completion from c is refused, or its output does not fit, or it does
-unfinished : (net : Network) (c : List ℚ) (at : CompletionTooBig) → completion_refusal net c ≡ Some at → completed_outcome net c ≡ Unfinished at
-unfolding completed_outcome
-unfinished net c at some = ap (λ o. option_map_or (λ e. Unfinished e) o (cond (output_fits net.output (completed net c)) (Completed net c) NoValue)) some
+-- the completion from c is refused, or it ends, and its output fits or not
+refused_is : (done : Outcome) (net : Network) (c : List ℚ) (o : Outcome) → IsRefusedCompletion net c o → finished_outcome done net c ≡ o
+unfolding finished_outcome
+refused_is done net c (Unfinished at) some = ap (λ o. option_map_or (λ e. Unfinished e) o (cond (output_fits net.output (completed net c)) done NoValue)) some
+refused_is done net c NoValue (none, unfit) =
+    ap (λ o. option_map_or (λ e. Unfinished e) o (cond (output_fits net.output (completed net c)) done NoValue)) none ∙ ap (λ b. cond b done NoValue) (unfit_is _ _ unfit)
+refused_is done net c _ refused = absurd refused
 
-finished : (net : Network) (c : List ℚ) (b : Bool) → completion_refusal net c ≡ None → output_fits net.output (completed net c) ≡ b → completed_outcome net c ≡ cond b (Completed net c) NoValue
-unfolding completed_outcome
-finished net c b none fits =
-    ap (λ o. option_map_or (λ e. Unfinished e) o (cond (output_fits net.output (completed net c)) (Completed net c) NoValue)) none ∙ ap (λ b. cond b (Completed net c) NoValue) fits
+finished_is : (done : Outcome) (net : Network) (c : List ℚ) → completion_refusal net c ≡ None → OutputFits net.output (completed net c) → finished_outcome done net c ≡ done
+unfolding finished_outcome
+finished_is done net c none fits =
+    ap (λ o. option_map_or (λ e. Unfinished e) o (cond (output_fits net.output (completed net c)) done NoValue)) none ∙ ap (λ b. cond b done NoValue) (fits_is _ _ fits)
 
 ran : (net : Network) (c : List ℚ) (b : Bool) → output_fits net.output c ≡ b → ran_outcome net c ≡ cond b (Ran net c) NoValue
 unfolding ran_outcome
@@ -120,27 +119,21 @@ ran net c b fits = ap (λ b. cond b (Ran net c) NoValue) fits
 
 -- of the segments of `bulk` that are drawn after z, and of the completion after them
 pub halves_outcome : Network → List ℚ → (z n : ℕ) → Outcome
-halves_outcome net a z n = option_map_or (λ r. Unmade r) (halves_refusal net z a) (bulked_outcome net n (length (halves net z a)) (after_all net a (halves net z a)))
-
-bulk_unfinished : (net : Network) (n count : ℕ) (c : List ℚ) (at : CompletionTooBig) → completion_refusal net c ≡ Some at → bulked_outcome net n count c ≡ Unfinished at
-unfolding bulked_outcome
-bulk_unfinished net n count c at some = ap (λ o. option_map_or (λ e. Unfinished e) o (cond (output_fits net.output (completed net c)) (Bulked n net count c) NoValue)) some
-
-bulk_finished : (net : Network) (n count : ℕ) (c : List ℚ) (b : Bool) → completion_refusal net c ≡ None → output_fits net.output (completed net c) ≡ b → bulked_outcome net n count c ≡ cond b (Bulked n net count c) NoValue
-unfolding bulked_outcome
-bulk_finished net n count c b none fits =
-    ap (λ o. option_map_or (λ e. Unfinished e) o (cond (output_fits net.output (completed net c)) (Bulked n net count c) NoValue)) none ∙ ap (λ b. cond b (Bulked n net count c) NoValue) fits
+halves_outcome net a z n = option_map_or (λ r. Unmade r) (halves_refusal net z a) (let c = after_all net a (halves net z a) in finished_outcome (Bulked n net (length (halves net z a)) c) net c)
 
 -- ---- there is one
+
+-- a refused completion from where the segments lead
+refused_after : (net : Network) (a : List ℚ) (us : List (List Flow)) (c : List ℚ) (o : Outcome) → StepsGo net a us c → IsRefusedCompletion net c o → job_outcome net a us ≡ o
+unfolding job_outcome
+refused_after net a us c o goes refused = reached _ net a us c goes ∙ refused_is (Completed net c) net c o refused
 
 pub job_outcome_is : (net : Network) (value : ℚ) (a : List ℚ) (us : List (List Flow)) (o : Outcome) → IsOutcomeOfSegments net value a us o → job_outcome net a us ≡ o
 unfolding job_outcome
 job_outcome_is net value a us (RefusedSegment t e) found = stopped _ net a us t e found
-job_outcome_is net value a us (Unfinished at) found = reached _ net a us found.0 found.1 ∙ unfinished net found.0 at found.2
-job_outcome_is net value a us NoValue found = reached _ net a us found.0 found.1 ∙ finished net found.0 false found.2 (unfit_is _ _ found.3)
 job_outcome_is net value a us (Completed n c) found =
-    reached _ net a us c found.1.leads ∙ finished net c true found.1.finishes (fits_is _ _ found.1.output_fits) ∙ ap (λ m. Completed m c) (sym found.0)
-job_outcome_is net value a us _ found = absurd found
+    reached _ net a us c found.1.leads ∙ finished_is (Completed net c) net c found.1.finishes found.1.output_fits ∙ ap (λ m. Completed m c) (sym found.0)
+job_outcome_is net value a us o (c, goes, refused) = refused_after net a us c o goes refused
 
 pub run_outcome_is : (net : Network) (a : List ℚ) (us : List (List Flow)) (o : Outcome) → IsOutcomeOfRun net a us o → run_outcome net a us ≡ o
 unfolding run_outcome
@@ -149,17 +142,21 @@ run_outcome_is net a us NoValue found = reached _ net a us found.0 found.1 ∙ r
 run_outcome_is net a us (Ran n c) found = reached _ net a us c found.1.leads ∙ ran net c true (fits_is _ _ found.1.output_fits) ∙ ap (λ m. Ran m c) (sym found.0)
 run_outcome_is net a us _ found = absurd found
 
+-- what comes of the segments of `bulk` that fit
+fitting_halves : (net : Network) (a : List ℚ) (z n : ℕ) → halves_refusal net z a ≡ None
+    → halves_outcome net a z n ≡ finished_outcome (Bulked n net (length (halves net z a)) (after_all net a (halves net z a))) net (after_all net a (halves net z a))
+unfolding halves_outcome
+fitting_halves net a z n fits =
+    ap (λ x. option_map_or (λ r. Unmade r) x (finished_outcome (Bulked n net (length (halves net z a)) (after_all net a (halves net z a))) net (after_all net a (halves net z a)))) fits
+
 pub halves_outcome_is : (net : Network) (value : ℚ) (a : List ℚ) (z n : ℕ) (o : Outcome) → IsOutcomeOfHalves net value a z n o → halves_outcome net a z n ≡ o
 unfolding halves_outcome
-halves_outcome_is net value a z n (Unmade r) found = ap (λ x. option_map_or (λ r. Unmade r) x (bulked_outcome net n (length (halves net z a)) (after_all net a (halves net z a)))) found
-halves_outcome_is net value a z n (Unfinished at) (fits, refused) =
-    ap (λ x. option_map_or (λ r. Unmade r) x (bulked_outcome net n (length (halves net z a)) (after_all net a (halves net z a)))) fits ∙ bulk_unfinished net n _ _ at refused
-halves_outcome_is net value a z n NoValue (fits, (none, unfit)) =
-    ap (λ x. option_map_or (λ r. Unmade r) x (bulked_outcome net n (length (halves net z a)) (after_all net a (halves net z a)))) fits ∙ bulk_finished net n _ _ false none (unfit_is _ _ unfit)
+halves_outcome_is net value a z n (Unmade r) found =
+    ap (λ x. option_map_or (λ r. Unmade r) x (finished_outcome (Bulked n net (length (halves net z a)) (after_all net a (halves net z a))) net (after_all net a (halves net z a)))) found
 halves_outcome_is net value a z n (Bulked m on count c) (size, same, fits, count_is, is) =
     let ends : after_all net a (halves net z a) ≡ c = sym (run_end net (halves net z a) a c is.run) in
-    ap (λ x. option_map_or (λ r. Unmade r) x (bulked_outcome net n (length (halves net z a)) (after_all net a (halves net z a)))) fits
-    ∙ ap₂ (λ k d. bulked_outcome net n k d) (sym count_is) ends
-    ∙ bulk_finished net n count c true is.finishes (fits_is _ _ is.output_fits)
+    fitting_halves net a z n fits
+    ∙ ap₂ (λ k d. finished_outcome (Bulked n net k d) net d) (sym count_is) ends
+    ∙ finished_is (Bulked n net count c) net c is.finishes is.output_fits
     ∙ ap₂ (λ k on. Bulked k on count c) (sym size) (sym same)
-halves_outcome_is net value a z n _ found = absurd found.1
+halves_outcome_is net value a z n o (fits, refused) = fitting_halves net a z n fits ∙ refused_is _ net (after_all net a (halves net z a)) o refused

@@ -45,7 +45,7 @@ use Rattle.crn_bulk.specs.Generator.{bulk_formula, bulk_job, bulk_number}
 use Rattle.crn_bulk.proofs.BulkLaws.{bulk_fits, bulk_amounts_long, bulk_amounts_not_negative}
 use Rattle.crn_program.specs.Answer.{Answers, IsFound, IsFoundByText, IsFoundInText, IsOutcomeOfFunction, IsOutcomeOfJob, IsOutcomeOfRunJob, IsOutcomeOfBulk, IsOutcomeOfHalves, IsFunctionAnswer, IsJobAnswer, IsRunAnswer, text_limit}
 use Rattle.crn_program.specs.Bulk.{drawn, half_flux, happens, half_turn, is_half_unfit, is_turn_unfit, halves_to, halves, halves_refusal_to, halves_refusal}
-use Rattle.crn_program.specs.Ending.{IsOutcomeOfCompletion, IsOutcomeOfEnd, IsOutcomeOfBulkCompletion}
+use Rattle.crn_program.specs.Ending.{IsOutcomeOfCompletion, IsOutcomeOfEnd}
 use Rattle.crn_program.specs.Finding.{Outcome, OtherKind, RefusedSegment, Unfinished, NoValue, Compiled, Completed, Ran, Unmade, Bulked, Finding, NoCommand, LongText, WrongLine, PastLimit, Comes, status_of, text_of}
 use Rattle.crn_program.specs.Report.{OutputFits}
 use Rattle.crn_program.specs.Runs.{IsRefused, IsOutcomeOfSegments}
@@ -96,13 +96,13 @@ fits_or_not : (e : Ends) (d : List ℚ) → OutputFits e d ⊎ (OutputFits e d �
 fits_or_not (Pair a b) d = ⊎_elim (λ k. inl k.1) (λ k. inr k.1) (is_frac_cases (amount d a -ℚ amount d b))
 fits_or_not (One a) d = inl tt
 
-comes_from : (net : Network) (c : List ℚ) → (o : Outcome) × IsOutcomeOfCompletion net c o
-comes_from net c = go (completion_refusal net c) refl (fits_or_not net.output (completed net c))
+comes_from : (done : Outcome) (net : Network) (c : List ℚ) → (o : Outcome) × IsOutcomeOfCompletion done net c o
+comes_from done net c = go (completion_refusal net c) refl (fits_or_not net.output (completed net c))
   where
-    go : (r : Option CompletionTooBig) → completion_refusal net c ≡ r → OutputFits net.output (completed net c) ⊎ (OutputFits net.output (completed net c) → ⊥) → (o : Outcome) × IsOutcomeOfCompletion net c o
-    go (Some at) refused output = (Unfinished at, refused)
-    go None fits (inl output) = (Completed net c, refl, refl, fits, output)
-    go None fits (inr unfit) = (NoValue, fits, unfit)
+    go : (r : Option CompletionTooBig) → completion_refusal net c ≡ r → OutputFits net.output (completed net c) ⊎ (OutputFits net.output (completed net c) → ⊥) → (o : Outcome) × IsOutcomeOfCompletion done net c o
+    go (Some at) refused output = (Unfinished at, inr refused)
+    go None fits (inl output) = (done, inl (refl, fits, output))
+    go None fits (inr unfit) = (NoValue, inr (fits, unfit))
 
 comes_at : (net : Network) (c : List ℚ) → (o : Outcome) × IsOutcomeOfEnd net c o
 comes_at net c = go (fits_or_not net.output c)
@@ -111,14 +111,6 @@ comes_at net c = go (fits_or_not net.output c)
     go (inl fits) = (Ran net c, refl, refl, fits)
     go (inr unfit) = (NoValue, unfit)
 
-comes_after : (n count : ℕ) (net : Network) (c : List ℚ) → (o : Outcome) × IsOutcomeOfBulkCompletion n count net c o
-comes_after n count net c = go (completion_refusal net c) refl (fits_or_not net.output (completed net c))
-  where
-    go : (r : Option CompletionTooBig) → completion_refusal net c ≡ r → OutputFits net.output (completed net c) ⊎ (OutputFits net.output (completed net c) → ⊥) → (o : Outcome) × IsOutcomeOfBulkCompletion n count net c o
-    go (Some at) refused output = (Unfinished at, refused)
-    go None fits (inl output) = (Bulked n net count c, refl, refl, refl, refl, fits, output)
-    go None fits (inr unfit) = (NoValue, fits, unfit)
-
 -- ---- what comes of a job, and of a run job
 
 comes_of_segments : (net : Network) (value : ℚ) (xs : List ℚ) (us : List (List Flow)) → IsNetwork net → IsFeedForward net → AreAmounts net xs → StablyComputes net xs value → AreSegments us
@@ -126,7 +118,7 @@ comes_of_segments : (net : Network) (value : ℚ) (xs : List ℚ) (us : List (Li
 comes_of_segments net value xs us ok feeds amounts stably segments = go (leads net (start net xs) us)
   where
     go : Leads net (start net xs) us → (o : Outcome) × IsOutcomeOfSegments net value (start net xs) us o
-    go (inl (c, goes)) = let from = comes_from net c in (from.0, outcome_of_segments net value xs us c from.0 ok feeds amounts segments stably goes from.1)
+    go (inl (c, goes)) = let from = comes_from (Completed net c) net c in (from.0, outcome_of_segments net value xs us c from.0 ok feeds amounts segments stably goes from.1)
     go (inr (t, e, refused)) = (RefusedSegment t e, refused)
 
 -- a function is given by pieces, or has a network
@@ -227,8 +219,9 @@ comes_of_bulk n some few =
         let z = bulk_number n in
         let us = halves net z (start net xs) in
         let (goes, segments) = halves_go net ok z (length net.reactions) (start net xs) (start_is_state net xs amounts.not_negative) (omega arith) fits in
-        let on = comes_after n (length us) net (after_all net (start net xs) us) in
-        (on.0, outcome_of_halves net value xs z n (length us) (after_all net (start net xs) us) on.0 ok feeds amounts segments stably goes fits refl on.1)
+        let c = after_all net (start net xs) us in
+        let on = comes_from (Bulked n net (length us) c) net c in
+        (on.0, outcome_of_halves net value xs z n (length us) c on.0 ok feeds amounts segments stably goes fits refl on.1)
 
 -- ---- what is found of a text
 

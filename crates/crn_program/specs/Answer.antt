@@ -16,7 +16,7 @@ use Rattle.crn_completer.specs.Refusal.{completion_refusal}
 use Rattle.crn_program.specs.Bulk.{halves, halves_refusal}
 use Rattle.crn_program.specs.Report.{OutputFits}
 use Rattle.crn_program.specs.Finding.{Outcome, OtherKind, Compiled, Unfinished, NoValue, Unmade, Bulked, Finding, NoCommand, LongText, WrongLine, PastLimit, Comes, status_of, text_of}
-use Rattle.crn_program.specs.Runs.{IsCompleted, IsOutcomeOfSegments, IsOutcomeOfRun}
+use Rattle.crn_program.specs.Runs.{IsCompleted, IsRefusedCompletion, IsOutcomeOfSegments, IsOutcomeOfRun}
 use Rattle.crn_program.specs.Value.{IsValue, IsNetworkOf}
 use Rattle.crn_compile.specs.Networks.{ComputesFunction}
 use Rattle.crn_program.specs.Words.{IsRow, IsNoRow}
@@ -68,12 +68,6 @@ IsOutcomeOfJob job outcome =
 -- `run`: what comes of the segments from the given state on
 abbrev pub IsOutcomeOfRunJob : PlainRunJob → Outcome → Type 0
 IsOutcomeOfRunJob job = IsOutcomeOfRun job.network job.state job.segments
-
--- what comes of the completion from c, where it is refused
-abbrev pub IsRefusedCompletion : Network → List ℚ → Outcome → Type 0
-IsRefusedCompletion net c (Unfinished at) = completion_refusal net c ≡ Some at
-IsRefusedCompletion net c NoValue = (completion_refusal net c ≡ None) × (OutputFits net.output (completed net c) → ⊥)
-IsRefusedCompletion net c _ = ⊥
 
 -- what comes of the segments that are drawn after z, from a on, and of the completion after them, where the network computes this value; in `bulk` of size n
 abbrev pub IsOutcomeOfHalves : Network → ℚ → List ℚ → (z n : ℕ) → Outcome → Type 0

@@ -1,5 +1,5 @@
 -- What comes of a state after the given segments, and what a status and a text say of it.
-use Rattle.std.specs.Prelude.{◌≡◌, List, ℕ, None, Some, Option, Result, Ok, Err}
+use Rattle.std.specs.Prelude.{◌≡◌, ◌⊎◌, List, ℕ, None, Some, Option, Result, Ok, Err}
 use Rattle.crn_fraction.specs.Rational.{ℚ}
 use Rattle.crn_grammar.specs.declared.error.TextError.{TextError}
 use Rattle.crn_grammar.specs.declared.error.TextError.TheVariants as line
@@ -8,16 +8,15 @@ use Rattle.crn_net.specs.declared.Flow.{Flow}
 use Rattle.crn_completer.specs.Kept.{each_alone}
 use Rattle.crn_completer.specs.Refusal.{completion_refusal}
 use Rattle.crn_program.specs.Report.{OutputFits}
-use Rattle.crn_program.specs.Answer.{IsRefusedCompletion}
+use Rattle.crn_program.specs.Runs.{IsRefusedCompletion}
 use Rattle.crn_program.specs.Finding.{Outcome, Unfinished as NotFinished, NoValue, Completed, Ran, Bulked, Finding, WrongLine, PastLimit, status_of_outcome, text_of_outcome}
 use Rattle.crn_program.specs.declared.complete.Unfinished.{Unfinished}
 use Rattle.crn_program.specs.declared.complete.Unfinished.TheVariants as unfinished
 use Rattle.crn_program.specs.declared.status.Status.{Status}
 
--- what comes of the completion from c
-abbrev pub IsOutcomeOfCompletion : Network → List ℚ → Outcome → Type 0
-IsOutcomeOfCompletion net c (Completed n d) = (n ≡ net) × (d ≡ c) × (completion_refusal net c ≡ None) × OutputFits net.output (completed net c)
-IsOutcomeOfCompletion net c outcome = IsRefusedCompletion net c outcome
+-- what comes of the completion from c: this, where it ends with a value that fits, or its refusal
+abbrev pub IsOutcomeOfCompletion : (done : Outcome) → Network → List ℚ → Outcome → Type 0
+IsOutcomeOfCompletion done net c outcome = ((outcome ≡ done) × (completion_refusal net c ≡ None) × OutputFits net.output (completed net c)) ⊎ IsRefusedCompletion net c outcome
 
 -- what comes of c, at the end of a run
 abbrev pub IsOutcomeOfEnd : Network → List ℚ → Outcome → Type 0
@@ -47,8 +46,3 @@ outcome_of unfinished.Value = NoValue
 abbrev pub Finishes : Network → List ℚ → List Flow → List ℚ → Result ℚ Unfinished → Type 0
 Finishes net c flows d (Ok v) = (completion_refusal net c ≡ None) × (each_alone flows ≡ completion net c) × (d ≡ completed net c) × OutputFits net.output d × (v ≡ value_at net.output (amount d))
 Finishes net c flows d (Err why) = IsRefusedCompletion net c (outcome_of why)
-
--- what comes of the completion from c, in `bulk` of size n after so many segments
-abbrev pub IsOutcomeOfBulkCompletion : (n count : ℕ) → Network → List ℚ → Outcome → Type 0
-IsOutcomeOfBulkCompletion n count net c (Bulked m on segments d) = (m ≡ n) × (on ≡ net) × (segments ≡ count) × (d ≡ c) × (completion_refusal net c ≡ None) × OutputFits net.output (completed net c)
-IsOutcomeOfBulkCompletion n count net c outcome = IsRefusedCompletion net c outcome

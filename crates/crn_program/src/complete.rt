@@ -8,7 +8,7 @@ ghost use Rattle.crn_job.specs.Grammar.{amount_count};
 ghost use Rattle.crn_job.specs.Reading.{job_of};
 ghost use Rattle.crn_program.specs.Answer.{Says, IsJobAnswer, IsOutcomeOfJob, IsFoundInText, text_limit};
 ghost use Rattle.crn_program.specs.Ending.{Tells, IsOutcomeOfCompletion, Finishes, outcome_of};
-ghost use Rattle.crn_program.specs.Finding.{status_of_outcome, text_of_outcome};
+ghost use Rattle.crn_program.specs.Finding.{Completed, status_of_outcome, text_of_outcome};
 ghost use Rattle.crn_program.specs.Runs.{IsOutcomeOfSegments};
 
 use crate::networks::network_of;
@@ -74,7 +74,7 @@ fn run_answer(
 // What is answered after the given segments: the report of the completion from here on.
 fn completion_answer(alloc: Global, replay: &mut Replay<'_>) -> Result<Reply, AllocError>
     ensures valid { IsNetwork replay.old.network }
-    ensures answer { IfOk result (λ reply. Tells (IsOutcomeOfCompletion replay.old.network replay.old.state) reply.status reply.text.items) }
+    ensures answer { IfOk result (λ reply. Tells (IsOutcomeOfCompletion (Completed replay.old.network replay.old.state) replay.old.network replay.old.state) reply.status reply.text.items) }
 {
     let network = replay.network();
     let mut report = begin_report(alloc, network, replay.state())?;

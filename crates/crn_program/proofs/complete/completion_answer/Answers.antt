@@ -1,5 +1,6 @@
 use Rattle.std.proofs.Common.{◌≡◌, string_bytes, rules}
 use Rattle.std.proofs.lemmas.Result.{IfOk-weaker}
+use Rattle.crn_program.specs.Finding.{Completed}
 use Rattle.crn_program.proofs.Completing.{tells_completed, tells_stopped}
 use Rattle.crn_program.proofs.complete.completion_answer.Goals as goal
 
@@ -16,5 +17,5 @@ returns-in_ok-end_report-in-Ok-clause-answer c =
 pub returns-clause-answer : goal.returns-clause-answer
 returns-clause-answer c =
     IfOk-weaker c.refused_completion.result _ _
-    (λ reply is. tells_stopped c.args.replay.now.network c.args.replay.now.state c.in-Err.why reply.status reply.text.items c.in-Err.ensures.ends is.0 is.1)
+    (λ reply is. tells_stopped (Completed c.args.replay.now.network c.args.replay.now.state) c.args.replay.now.network c.args.replay.now.state c.in-Err.why reply.status reply.text.items c.in-Err.ensures.ends is.0 is.1)
     c.refused_completion.ensures
