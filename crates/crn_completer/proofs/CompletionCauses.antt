@@ -10,7 +10,7 @@ use Rattle.crn_net.specs.Totals.{change}
 use Rattle.crn_net.specs.declared.Flow.{Flow}
 use Rattle.crn_segments.proofs.SignLaws.{frac_is, not_frac_is, is_frac_cases}
 use Rattle.crn_segments.proofs.Steps.{map_some, or_some, same_or_other, sum_is, sum_fits}
-use Rattle.crn_segments.specs.Fits.{SpeciesFits, TurnFits, flows_of}
+use Rattle.crn_segments.specs.Fits.{SpeciesFits, TurnFits, flows_with}
 use Rattle.crn_segments.specs.Signs.{is_frac}
 use Rattle.crn_segments.specs.Step.{sum_of}
 use Rattle.crn_completer.proofs.Fitting.{quotients_fit, fitting_quotients, true_or_false, absent, present, either, named, fitting_turn, turns_fit, fitting_turns}
@@ -136,12 +136,12 @@ is_without m s (suc left) t f =
 module _ (net : Network) (c : List ℚ) (u : List Flow) where
   fits_of : (s : ℕ) → is_some (sum_of net c u s) ≡ true → SpeciesFits net c u s
   fits_of s h =
-      ⊎_elim (λ (k : (b : ℚ) × (sum_of net c u s ≡ Some b) × (is_some (sum_of net c u s) ≡ true)). (sum_is (change net s) (amount c s) k.0 (flows_of net s u) k.1).1)
+      ⊎_elim (λ (k : (b : ℚ) × (sum_of net c u s ≡ Some b) × (is_some (sum_of net c u s) ≡ true)). (sum_is (change net s) (amount c s) k.0 (flows_with net s u) k.1).1)
       (λ (k : (sum_of net c u s ≡ None) × (is_some (sum_of net c u s) ≡ false)). let e : true ≡ false = sym h ∙ k.1 in absurd (cc e))
       (test_of (sum_of net c u s))
 
   of_fits : (s : ℕ) → SpeciesFits net c u s → is_some (sum_of net c u s) ≡ true
-  of_fits s h = ap is_some (sum_fits (change net s) (amount c s) (flows_of net s u) h)
+  of_fits s h = ap is_some (sum_fits (change net s) (amount c s) (flows_with net s u) h)
 
   first_sum : (t : ℕ) → unfit_sum (sum_of net c u) 1 net.species ≡ Some t → IsFirst (SpeciesFits net c u) net.species t
   first_sum t h =

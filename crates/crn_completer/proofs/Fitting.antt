@@ -9,7 +9,7 @@ use Rattle.crn_net.specs.Totals.{change, LacksReactant}
 use Rattle.crn_net.specs.declared.Flow.{Flow}
 use Rattle.crn_segments.proofs.SignLaws.{frac_is, is_frac_cases}
 use Rattle.crn_segments.proofs.Steps.{or_none, sum_is, sum_fits}
-use Rattle.crn_segments.specs.Fits.{StepFits, TurnFits, CompletionFits, flows_of}
+use Rattle.crn_segments.specs.Fits.{StepFits, TurnFits, CompletionFits, flows_with}
 use Rattle.crn_segments.specs.Signs.{is_frac}
 use Rattle.crn_segments.specs.Step.{sum_of}
 use Rattle.crn_completer.proofs.Turns.{lacks_some, lacks_none, same_or_other}
@@ -66,11 +66,11 @@ sums_all m s (suc left) h =
 step_fits : (net : Network) (c : List ℚ) (u : List Flow) → unfit_sum (sum_of net c u) 1 net.species ≡ None → StepFits net c u
 step_fits net c u h s low high =
     let k = all_sums (sum_of net c u) 1 net.species h s low (omega arith) in
-    (sum_is (change net s) (amount c s) k.0 (flows_of net s u) k.1).1
+    (sum_is (change net s) (amount c s) k.0 (flows_with net s u) k.1).1
 
 fitting_step : (net : Network) (c : List ℚ) (u : List Flow) → StepFits net c u → unfit_sum (sum_of net c u) 1 net.species ≡ None
 fitting_step net c u h =
-    sums_all (sum_of net c u) 1 net.species (λ s low high. ap is_some (sum_fits (change net s) (amount c s) (flows_of net s u) (h s low (omega (arith, high)))))
+    sums_all (sum_of net c u) 1 net.species (λ s low high. ap is_some (sum_fits (change net s) (amount c s) (flows_with net s u) (h s low (omega (arith, high)))))
 
 -- ---- turns
 

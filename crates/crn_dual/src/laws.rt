@@ -8,7 +8,7 @@ ghost use Rattle.crn_formula.specs.Functions.{ByFormula, IsFitting, is_affine, k
 ghost use Rattle.crn_dual.specs.Columns.{IsOverVariables, has_context, value_over};
 ghost use Rattle.crn_dual.specs.Computes.{Computes};
 ghost use Rattle.crn_dual.specs.Layout.{layout};
-ghost use Rattle.crn_dual.specs.Written.{lesser_of_two, at_least_three, at_least_three_network};
+ghost use Rattle.crn_dual.specs.Written.{lesser_of_two, at_least_three, at_least_three_network, scaled_less_sum, scaled_less_sum_network};
 
 /// The layout of a formula is a network, and feeds forward.
 pub fn layouts_feed_forward()
@@ -34,8 +34,9 @@ pub fn layouts_are_small()
     ensures { (k : ℕ) (e : Formula) → k ≤ 8 → IsOverVariables k e → (layout k e).species ≤ 17 + 22 * node_count e }
 {}
 
-/// Two layouts written out: the lesser of two variables, and the greater of a variable and 3, which has a context.
+/// Layouts written out: the lesser of two variables, the greater of a variable and 3, which has a context, and a formula of multiples, sums and differences.
 pub fn layouts_written_out()
     ensures lesser { layout 2 lesser_of_two ≡ minimum }
     ensures constant { layout 1 at_least_three ≡ at_least_three_network }
+    ensures linear { layout 2 scaled_less_sum ≡ scaled_less_sum_network }
 {}

@@ -8,6 +8,7 @@ use Rattle.crn_gates.specs.FanOut.{fanned}
 use Rattle.crn_net.proofs.InRun.{made_in_run}
 use Rattle.crn_net.proofs.Settling.{computes}
 use Rattle.crn_net.proofs.Start.{amount-start, amount-start-past, pick_no, start_not_negative}
+use Rattle.crn_net.proofs.StartLists.{given_nothing}
 use Rattle.crn_net.proofs.Sums.{sum_none}
 use Rattle.crn_net.proofs.Unique.{none_of}
 use Rattle.crn_net.specs.Network.{Network, Reaction, amount, given_to, input_species, or_context, start, completion, completed, value_at, IsApart, IsNetwork, IsFeedForward, AreNotNegative, StablyComputes}
@@ -18,16 +19,10 @@ use Rattle.crn_net.specs.Totals.{made_in, total, IsUntaken, AreUntaken}
 
 -- ---- a start
 
--- what a list gives to a species that it does not name
-given_to-other : (is : List ℕ) (xs : List ℚ) (s : ℕ) → IsApart s is → given_to is xs s ≡ 0ℚ
-given_to-other [] xs s h = refl
-given_to-other (i ∷ is) [] s h = refl
-given_to-other (i ∷ is) (x ∷ xs) s h = pick_no i s x _ (λ e. h.0 (sym e)) ∙ given_to-other is xs s h.1
-
 -- a start has nothing of a species that is neither an input's nor the context
 pub start_empty : (net : Network) (xs : List ℚ) (s : ℕ) → IsApart s (input_species net.inputs) → or_context net.context s 0ℚ ≡ 0ℚ → 1 ≤ s → amount (start net xs) s ≡ 0ℚ
 start_empty net xs s apart other low =
-    ⊎_elim (λ (l : s ≤ net.species). amount-start net xs s low l ∙ ap (or_context net.context s) (given_to-other (input_species net.inputs) xs s apart) ∙ other)
+    ⊎_elim (λ (l : s ≤ net.species). amount-start net xs s low l ∙ ap (or_context net.context s) (given_nothing (input_species net.inputs) xs s apart) ∙ other)
     (λ (l : net.species < s). amount-start-past net xs s l)
     (grind arith)
 

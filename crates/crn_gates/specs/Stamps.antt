@@ -25,13 +25,13 @@ species_at s YPlus = s.made.0
 species_at s YMinus = s.made.1
 
 -- the number that a count stands for, at the factor p/q
-abbrev pub number_of : ℕ → ℕ → Count → ℕ
-number_of p q One = 1
-number_of p q Numerator = p
-number_of p q Denominator = q
+abbrev pub count_at : ℕ → ℕ → Count → ℕ
+count_at p q One = 1
+count_at p q Numerator = p
+count_at p q Denominator = q
 
 abbrev pub part_at : ℕ → ℕ → Slots → Entry → Plain.Part
-part_at p q s e = record { species = species_at s e.slot; count = number_of p q e.count }
+part_at p q s e = record { species = species_at s e.slot; count = count_at p q e.count }
 
 abbrev pub side_at : ℕ → ℕ → Slots → Side → List Plain.Part
 side_at p q s (side.One e) = part_at p q s e ∷ []

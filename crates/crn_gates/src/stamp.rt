@@ -2,7 +2,7 @@
 ghost use Rattle.std.specs.Prelude.{◌≡◌, ◌++◌, ◌<◌, ◌≤◌, ◌^◌, pos, ◌<ℤ◌, unsigned_abs, IfOk, OnOk, IsTrue};
 ghost use Rattle.crn_gates.specs.Gates.{factor_of, transfer, transfer_single, transfer_one};
 ghost use Rattle.crn_net.specs.Views.{natural, part_of, parts_of, reactions_of};
-ghost use Rattle.crn_gates.specs.Stamps.{species_at, number_of, part_at, side_at, reactions_at, is_in_order};
+ghost use Rattle.crn_gates.specs.Stamps.{species_at, count_at, part_at, side_at, reactions_at, is_in_order};
 
 use crn_fraction::Frac;
 use crn_net::{Part, Reaction};

@@ -10,7 +10,7 @@ use Rattle.crn_net.specs.declared.Flow.{Flow}
 use Rattle.crn_segments.proofs.Marks.{none_marked, ready_room}
 use Rattle.crn_segments.proofs.Runs.{sum_there, none_refused}
 use Rattle.crn_segments.proofs.Steps.{AreSums}
-use Rattle.crn_segments.specs.Fits.{flows_of}
+use Rattle.crn_segments.specs.Fits.{flows_with}
 use Rattle.crn_segments.specs.Step.{sum_of, sum_refusal, first_refusal, sums_refusal}
 use Rattle.crn_segments.specs.Sums.{RoomOf, IsReady, mark_of, by_mark, sum_in, sum_from}
 use Rattle.crn_segments.specs.declared.StepError.{StepError}
@@ -42,10 +42,10 @@ first_same m l h s zero = refl
 first_same m l h s (suc left) = ap₂ option_or (ap (sum_refusal s) (h s)) (first_same m l h (suc s) left)
 
 module _ (net : Network) (c : List ℚ) (u : List Flow) (state : IsState net c) (old now : Sums) (ready : IsReady net.species old)
-    (adds : (s : ℕ) → sum_in now c s ≡ sum_from (change net s) (sum_in old c s) (flows_of net s u)) where
+    (adds : (s : ℕ) → sum_in now c s ≡ sum_from (change net s) (sum_in old c s) (flows_with net s u)) where
   -- the sums are those of the segment
   pub sums_are : (s : ℕ) → sum_in now c s ≡ sum_of net c u s
-  sums_are s = adds s ∙ ap (λ m. sum_from (change net s) (by_mark m (amount old.next.items s) (amount c s)) (flows_of net s u)) (none_marked old.marks.items old.touched.items ready.1 ready.0.listed s)
+  sums_are s = adds s ∙ ap (λ m. sum_from (change net s) (by_mark m (amount old.next.items s) (amount c s)) (flows_with net s u)) (none_marked old.marks.items old.touched.items ready.1 ready.0.listed s)
 
   pub refused_as : (o : Option StepError) → ((d : List ℚ) → IsNotNegative d → first_refusal (sum_in now d) 1 net.species ≡ o) → sums_refusal net c u ≡ o
   refused_as o h = sym (first_same (sum_in now c) (sum_of net c u) sums_are 1 net.species) ∙ h c state.not_negative

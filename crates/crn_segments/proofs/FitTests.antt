@@ -9,7 +9,7 @@ use Rattle.crn_net.specs.Totals.{change}
 use Rattle.crn_net.specs.declared.Flow.{Flow}
 use Rattle.crn_segments.proofs.SignLaws.{is_frac_cases}
 use Rattle.crn_segments.specs.Signs.{is_frac}
-use Rattle.crn_segments.specs.Fits.{SumFits, StepFits, TurnFits, flows_of}
+use Rattle.crn_segments.specs.Fits.{SumFits, StepFits, TurnFits, flows_with}
 
 both_true : (a b : Bool) → (a && b) ≡ true → (a ≡ true) × (b ≡ true)
 both_true true b h = (refl, h)
@@ -41,10 +41,10 @@ each_is t (suc n) s h low high =
     ⊎_elim (λ (e : s ≡ suc n). subst (λ x. t x ≡ true) (sym e) k.0) (λ (l : s < suc n). each_is t n s k.1 low (omega arith)) (eq-or-lt_of_le high)
 
 abbrev pub step_fits : Network → List ℚ → List Flow → Bool
-step_fits net c u = each_to (λ s. sum_fits (change net s) (amount c s) (flows_of net s u)) net.species
+step_fits net c u = each_to (λ s. sum_fits (change net s) (amount c s) (flows_with net s u)) net.species
 
 step_is : (net : Network) (c : List ℚ) (u : List Flow) → step_fits net c u ≡ true → StepFits net c u
-step_is net c u h s low high = sum_is (change net s) (amount c s) (flows_of net s u) (each_is (λ s. sum_fits (change net s) (amount c s) (flows_of net s u)) net.species s h low high)
+step_is net c u h s low high = sum_is (change net s) (amount c s) (flows_with net s u) (each_is (λ s. sum_fits (change net s) (amount c s) (flows_with net s u)) net.species s h low high)
 
 -- of species s the quotient fits where reaction r takes it
 abbrev pub quotient_fits : Network → ℕ → List ℚ → ℕ → Bool

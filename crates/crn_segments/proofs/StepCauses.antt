@@ -16,7 +16,7 @@ use Rattle.crn_segments.proofs.Runs.{sum_there}
 use Rattle.crn_segments.proofs.SignLaws.{positive_is, not_positive_is, not_negative_is, negative_is, is_positive_ℚ_cases, is_negative_ℚ_cases}
 use Rattle.crn_segments.proofs.Steps.{above_or_not, flow_none, flows_exist, map_some, none_absent, or_none, or_some, present_all, same_or_other, refused_flows, refused_sums, sum_fits, sum_is_after}
 use Rattle.crn_segments.specs.Causes.{MayBegin, ComesTo, IsFirstAbsent, SpeciesGoes, StopsAt, IsStepCause}
-use Rattle.crn_segments.specs.Fits.{SpeciesFits, flows_of}
+use Rattle.crn_segments.specs.Fits.{SpeciesFits, flows_with}
 use Rattle.crn_segments.specs.Flows.{IsSegment}
 use Rattle.crn_segments.specs.Progress.{Progress}
 use Rattle.crn_segments.specs.Signs.{is_positive_ℚ, is_negative_ℚ}
@@ -209,8 +209,8 @@ module _ (net : Network) (c : List ℚ) (u : List Flow) (flows : AreFlows (lengt
   -- a sum that fits is what is there after the step
   sum_left : SpeciesFits net c u s → sum_of net c u s ≡ Some (amount (after net c u) s)
   sum_left h =
-      let e = sum_fits (change net s) (amount c s) (flows_of net s u) h in
-      e ∙ ap Some (sym (sum_is_after net c u s (added (amount c s) (change net s) (flows_of net s u)) flows low high e).0)
+      let e = sum_fits (change net s) (amount c s) (flows_with net s u) h in
+      e ∙ ap Some (sym (sum_is_after net c u s (added (amount c s) (change net s) (flows_with net s u)) flows low high e).0)
 
   refused_by : Bool → Option StepError
   refused_by b = if b then Some (TakesMore s) else None

@@ -19,7 +19,7 @@ use Rattle.crn_segments.specs.Progress.{Progress}
 use Rattle.crn_segments.specs.Flows.{AreAscending, IsSegment}
 use Rattle.crn_segments.specs.Signs.{is_positive_ℚ, is_frac}
 use Rattle.crn_segments.specs.Step.{first_absent, flow_refusal, flows_refusal, fitting_sum, sum_of, sum_refusal, first_refusal, sums_refusal, step_refusal}
-use Rattle.crn_segments.specs.Fits.{SumFits, StepFits, flows_of, is_on_side}
+use Rattle.crn_segments.specs.Fits.{SumFits, StepFits, flows_with, is_on_side}
 use Rattle.crn_segments.specs.declared.StepError.{StepError}
 use Rattle.crn_segments.specs.declared.StepError.TheVariants.{NoReaction, NotPresent, TakesMore}
 
@@ -178,11 +178,11 @@ side_cases net r s = cases (taken net r s) (given net r s) (whole-minus (given n
     cases t g k = ⊎_elim (λ h. inl h) (λ (h : ((nat_lt 0 t || nat_lt 0 g) ≡ false) × (t ≡ 0) × (g ≡ 0)). inr (h.0, k h.2 h.1)) (none t g)
 
 -- a reaction that has the species on no side adds nothing to its sum
-added_sides : (net : Network) (s : ℕ) (a : ℚ) (u : List Flow) → added a (change net s) (flows_of net s u) ≡ added a (change net s) u
+added_sides : (net : Network) (s : ℕ) (a : ℚ) (u : List Flow) → added a (change net s) (flows_with net s u) ≡ added a (change net s) u
 added_sides net s a [] = refl
 added_sides net s a (f ∷ fs) =
     let b : ℚ = a +ℚ change net s f.reaction *ℚ f.flux in
-    let with : Bool → List Flow = λ x. cond x (f ∷ flows_of net s fs) (flows_of net s fs) in
+    let with : Bool → List Flow = λ x. cond x (f ∷ flows_with net s fs) (flows_with net s fs) in
     ⊎_elim (λ (t : is_on_side net f.reaction s ≡ true). ap (λ x. added a (change net s) (with x)) t ∙ added_sides net s b fs)
     (λ (t : (is_on_side net f.reaction s ≡ false) × (change net s f.reaction ≡ 0ℚ)).
     let same : a ≡ b = sym (ap (λ x. a +ℚ x *ℚ f.flux) t.1 ∙ ap (λ x. a +ℚ x) (zero-*ℚ f.flux) ∙ +ℚ-zero a) in
@@ -195,9 +195,9 @@ AreSums net c u s d = (j : ℕ) → 1 ≤ j → j < s → (sum_of net c u j ≡ 
 
 -- the sum of a species, where it fits, is its amount after the segment
 pub sum_is_after : (net : Network) (c : List ℚ) (u : List Flow) (s : ℕ) (b : ℚ) → AreFlows (length net.reactions) u → 1 ≤ s → s ≤ net.species → sum_of net c u s ≡ Some b →
-    (amount (after net c u) s ≡ b) × SumFits (change net s) (amount c s) (flows_of net s u)
+    (amount (after net c u) s ≡ b) × SumFits (change net s) (amount c s) (flows_with net s u)
 sum_is_after net c u s b flows low high e =
-    let k = sum_is (change net s) (amount c s) b (flows_of net s u) e in
+    let k = sum_is (change net s) (amount c s) b (flows_with net s u) e in
     (amount-added net c u s flows low high ∙ sym (added_sides net s (amount c s) u) ∙ k.0, k.1)
 
 sums_none : (net : Network) (c : List ℚ) (u : List Flow) (s left : ℕ) → 1 ≤ s → s + left ≡ net.species + 1 → StepFits net c u → ((j : ℕ) → 1 ≤ j → j ≤ net.species → 0ℚ ≤ℚ added (amount c j) (change net j) u) →
@@ -206,7 +206,7 @@ sums_none net c u s zero low e fits h = refl
 sums_none net c u s (suc left) low e fits h =
     let high : s ≤ net.species = omega arith in
     let here : sum_refusal s (sum_of net c u s) ≡ None =
-    ap (sum_refusal s) (sum_fits (change net s) (amount c s) (flows_of net s u) (fits s low high))
+    ap (sum_refusal s) (sum_fits (change net s) (amount c s) (flows_with net s u) (fits s low high))
     ∙ ap (λ b. if b then Some (TakesMore s) else None) (not_negative_is _ (subst (λ x. 0ℚ ≤ℚ x) (sym (added_sides net s (amount c s) u)) (h s low high))) in
     ap₂ option_or here (sums_none net c u (suc s) left (omega arith) (omega arith) fits h)
 

@@ -11,8 +11,8 @@ unfoldable pub is_on_side : Network → ℕ → ℕ → Bool
 is_on_side net r s = nat_lt 0 (taken net r s) || nat_lt 0 (given net r s)
 
 -- the flows, in order, whose reaction has species s on a side
-abbrev pub flows_of : Network → ℕ → List Flow → List Flow
-flows_of net s u = filter (λ f. is_on_side net f.reaction s) u
+abbrev pub flows_with : Network → ℕ → List Flow → List Flow
+flows_with net s u = filter (λ f. is_on_side net f.reaction s) u
 
 -- the sum begins with a, and k f.reaction *ℚ f.flux is added for the flows in order; each product and each partial sum fits
 abbrev pub SumFits : (ℕ → ℚ) → ℚ → List Flow → Type 0
@@ -22,7 +22,7 @@ SumFits k a (f ∷ fs) = IsFrac (k f.reaction *ℚ f.flux) × IsFrac (a +ℚ k f
 -- in the step from c by the segment u the sum of species s fits: its amount, and the whole number given less taken times the flux for each reaction that has
 -- it on a side
 abbrev pub SpeciesFits : Network → List ℚ → List Flow → ℕ → Type 0
-SpeciesFits net c u s = SumFits (change net s) (amount c s) (flows_of net s u)
+SpeciesFits net c u s = SumFits (change net s) (amount c s) (flows_with net s u)
 
 -- the step fits: the sum of each species does
 abbrev pub StepFits : Network → List ℚ → List Flow → Type 0

@@ -5,7 +5,7 @@ use Rattle.crn_fraction.specs.Rational.{ℚ, ◌+ℚ◌, ◌*ℚ◌}
 use Rattle.crn_net.specs.Network.{Network, Part, AreParts, amount, numbered}
 use Rattle.crn_net.specs.Totals.{change}
 use Rattle.crn_net.specs.declared.Flow.{Flow}
-use Rattle.crn_segments.specs.Fits.{flows_of}
+use Rattle.crn_segments.specs.Fits.{flows_with}
 use Rattle.crn_segments.specs.Signs.{is_positive_ℚ, is_negative_ℚ, is_frac}
 use Rattle.crn_segments.specs.declared.StepError.{StepError}
 use Rattle.crn_segments.specs.declared.StepError.TheVariants.{NoReaction, NotPresent, TooBig, TakesMore}
@@ -33,7 +33,7 @@ fitting_sum k a (f ∷ fs) =
 
 -- the sum of species s: its amount, and the product of each flow whose reaction has it on a side
 abbrev pub sum_of : Network → List ℚ → List Flow → ℕ → Option ℚ
-sum_of net c u s = fitting_sum (change net s) (amount c s) (flows_of net s u)
+sum_of net c u s = fitting_sum (change net s) (amount c s) (flows_with net s u)
 
 -- the sum of species s fits and is not negative
 abbrev pub sum_refusal : ℕ → Option ℚ → Option StepError

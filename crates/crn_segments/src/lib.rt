@@ -12,7 +12,7 @@ ghost use Rattle.crn_net.specs.Network as Plain;
 ghost use Rattle.crn_net.specs.Totals.{change};
 ghost use Rattle.crn_net.specs.Views.{parts_of, reaction_of};
 ghost use Rattle.crn_net.specs.Limits.{IsWithinLimits};
-ghost use Rattle.crn_segments.specs.Fits.{flows_of, StepFits};
+ghost use Rattle.crn_segments.specs.Fits.{flows_with, StepFits};
 ghost use Rattle.crn_segments.specs.Signs.{is_positive_ℚ, is_negative_ℚ};
 ghost use Rattle.crn_segments.specs.Flows.{IsSegment, AreAscending};
 ghost use Rattle.crn_segments.specs.Causes.{IsStepCause};

@@ -7,7 +7,7 @@ ghost use Rattle.crn_net.specs.Network.{IsReaction, IsNotNegative, AreParts, Are
 ghost use Rattle.crn_net.specs.Limits.{IsWithinLimits};
 ghost use Rattle.crn_net.specs.Totals.{change};
 ghost use Rattle.crn_net.specs.Views.{parts_of, reaction_of};
-ghost use Rattle.crn_segments.specs.Fits.{flows_of, is_on_side};
+ghost use Rattle.crn_segments.specs.Fits.{flows_with, is_on_side};
 ghost use Rattle.crn_segments.specs.Step.{Answers, IsSide, first_refusal};
 ghost use Rattle.crn_segments.specs.Sums.{mark_of, IsRoom, IsReady, sum_in, sum_with, sum_where, sum_from, refusal_in, IsLeastRefused, gained, is_new};
 
@@ -131,7 +131,7 @@ impl Sums {
         requires long { length state.now ≡ network.now.species }
         requires room { IsRoom (length state.now) self.old }
         ensures room { IsRoom (length state.now) self.new }
-        ensures sums { (s : ℕ) → sum_in self.new state.now s ≡ sum_from (change network.now s) (sum_in self.old state.now s) (flows_of network.now s flows.now) }
+        ensures sums { (s : ℕ) → sum_in self.new state.now s ≡ sum_from (change network.now s) (sum_in self.old state.now s) (flows_with network.now s flows.now) }
     {
         for flow in flows {
             self.add_flow(network, *flow, state);
