@@ -125,8 +125,8 @@ fn greatest(a: Frac, b: Frac) -> Frac
     }
 }
 
-// Whether the form has a constant other than 0, in the column past those of the variables.
-pub(crate) fn has_constant(form: &Form, variables: usize) -> bool
+/// Whether the form has a constant other than 0, in the column past those of the variables.
+pub fn has_constant(form: &Form, variables: usize) -> bool
     ensures { result ≡ has_constant variables form.now }
 {
     if variables >= form.len() {

@@ -1,6 +1,6 @@
 //! Functions of each kind, and when their parts make one.
 
-ghost use Rattle.std.specs.Prelude.{◌≡◌, ◌↔◌, ◌<◌, ◌≤◌, ◌+◌, ◌++◌, ◌∷◌, [], pos, length, take, sum_by, false, IsTrue, All};
+ghost use Rattle.std.specs.Prelude.{◌≡◌, ◌↔◌, ◌<◌, ◌≤◌, ◌+◌, ◌++◌, ◌∷◌, [], pos, length, take, min, sum_by, false, IsTrue, All};
 ghost use Rattle.std.specs.List.{fold};
 ghost use Rattle.std.specs.Result.{OkIff};
 ghost use Rattle.crn_fraction.specs.Rational.{0ℚ, whole, ◌≤ℚ◌, min_ℚ};
@@ -8,7 +8,7 @@ ghost use Rattle.crn_linear.specs.Forms.{at, IsValueInReach};
 ghost use Rattle.crn_formula.specs.Pieces.{columns_of};
 ghost use Rattle.crn_formula.specs.Functions.{Kind, least_value, kind_value, IsKindInReach, is_affine, columns, IsKindOver, IsWithinLimits, IsFitting, condition_count, AreFewPieces, AreFewForms, HasSome, IsGivenByPieces};
 ghost use Rattle.crn_formula.specs.Domains.{domain_for, orthant};
-ghost use Rattle.crn_formula.specs.Views.{kind_of, piece_of, IsFunction};
+ghost use Rattle.crn_formula.specs.Views.{kind_of, piece_of, pieces_of, IsFunction};
 ghost use Rattle.crn_formula.specs.Answers.{value, IsValueFormed, AnswersValue};
 
 use crate::domain::Domain;
@@ -133,15 +133,13 @@ fn are_few_pieces(pieces: &[Piece]) -> bool
         && count_conditions(pieces) <= 100
 }
 
-// The number of conditions of all pieces together.
-fn count_conditions(pieces: &[Piece]) -> usize
-    requires few { length pieces.now ≤ 32 }
-    requires each { All (λ p. condition_count (piece_of p) ≤ 16) pieces.now }
-    ensures { result ≡ sum_by (λ p. condition_count (piece_of p)) pieces.now }
+/// The number of conditions of all pieces together, or `usize::MAX` where there are more.
+pub fn count_conditions(pieces: &[Piece]) -> usize
+    ensures { result ≡ min (sum_by condition_count (pieces_of pieces.now)) usize.MAX }
 {
-    let mut count = 0;
+    let mut count = 0usize;
     for piece in pieces {
-        count += piece.conditions.as_slice().len();
+        count = count.saturating_add(piece.conditions.as_slice().len());
     }
     count
 }

@@ -9,9 +9,9 @@ pub mod laws;
 mod pieces;
 
 pub use domain::Domain;
-pub use formula::Formula;
-pub use function::{Function, FunctionKind, ValueError};
-pub use pieces::Piece;
+pub use formula::{Formula, has_constant};
+pub use function::{Function, FunctionKind, ValueError, count_conditions};
+pub use pieces::{Piece, some_piece_has_constant};
 
 #[cfg(test)]
 mod tests;

@@ -41,8 +41,8 @@ impl Piece {
     }
 }
 
-// Whether some piece has a constant other than 0.
-pub(crate) fn some_piece_has_constant(pieces: &[Piece], variables: usize) -> bool
+/// Whether the form or a condition of some piece has a constant other than 0, in the column past those of the variables.
+pub fn some_piece_has_constant(pieces: &[Piece], variables: usize) -> bool
     ensures { result ≡ list_any (λ p. piece_has_constant variables (piece_of p)) pieces.now }
 {
     pieces.iter().any(|piece| piece.has_constant(variables))

@@ -1,19 +1,21 @@
 -- The distinct elements of a list, by a test that tells which are equal.
-use Rattle.std.proofs.Common.{◌≡◌, ◌≢◌, ◌⊎◌, inl, inr, ⊎_elim, ℕ, zero, suc, ◌<◌, List, [], ◌∷◌, ◌++◌, length, get_or, drop, Bool, true, false, cond, true≢false, refl, sym, ap, ap₂, ◌∙◌, subst, arith}
-use Rattle.std.specs.Prelude.{Contains, ◌==◌}
+use Rattle.std.proofs.Common.{◌≡◌, ◌≢◌, ◌⊎◌, inl, inr, ⊎_elim, ℕ, zero, suc, ◌<◌, List, [], ◌∷◌, ◌++◌, length, get_or, Bool, true, false, cond, true≢false, refl, sym, ap, ◌∙◌, subst, arith}
+use Rattle.std.specs.Prelude.{Contains}
 use Rattle.std.specs.List.{AllPairs, filter}
 use Rattle.std.specs.Bool.{Decides}
 use Rattle.std.specs.Set.{is_member}
-use Rattle.std.specs.Ordering.{int_eq}
+use Rattle.std.specs.Cmp.Lexicographic.{pointwise}
+use Rattle.std.proofs.lemmas.Slice.Eq.{slice_eq-Decides}
 use Rattle.std.proofs.lemmas.Bool.{cond_both}
-use Rattle.std.proofs.lemmas.Bool.Decides.{Decides-eqb, Decides-int_eq, Decides-like, not_from_Decides}
+use Rattle.std.proofs.lemmas.Bool.Decides.{not_from_Decides}
 use Rattle.std.proofs.lemmas.List.{append-nil}
 use Rattle.std.proofs.lemmas.List.Elements.{All-contains, All-contains_itself, All-filter, filter_passes, filter-append, Contains-append_right}
 use Rattle.std.proofs.lemmas.List.Kept.{AllPairs-cons, AllPairs-filter}
 use Rattle.std.proofs.lemmas.Map.Made.{is_member-Decides}
 use Rattle.crn_fraction.specs.Rational.{ℚ}
-use Rattle.crn_fraction.specs.Parts.{same_parts}
-use Rattle.crn_linear.specs.Forms.{distinct, same_lists, eq_ℚ}
+use Rattle.crn_fraction.specs.Equality.{eq_fractions}
+use Rattle.crn_fraction.proofs.Equal.{Decides-eq_fractions}
+use Rattle.crn_linear.specs.Forms.{distinct}
 
 -- ---- lists
 -- an element is the first or a later one
@@ -125,25 +127,7 @@ module _ {X : Type 0} (same : X → X → Bool) (tells : (x y : X) → Decides (
       ∙ ap (λ ys. filter (other x) (distinct same xs) ++ ys) gone ∙ append-nil (filter (other x) (distinct same xs)))
       (contained xs z))
 
--- ---- which lists are equal
--- two tests in turn decide both facts
-both_tests : {P Q : Type 0} (b c : Bool) → Decides b P → Decides c Q → Decides (cond b c false) (P × Q)
-both_tests true c d k = (λ e. (d.0 refl, k.0 e), λ h. k.1 h.1)
-both_tests false c d k = (λ e. absurd (true≢false (sym e)), λ h. d.1 h.0)
-
-Decides-same_lists : {X : Type 0} (same : X → X → Bool) → ((x y : X) → Decides (same x y) (x ≡ y)) → (xs ys : List X) → Decides (same_lists same xs ys) (xs ≡ ys)
-Decides-same_lists same tells [] [] = (λ e. refl, λ e. refl)
-Decides-same_lists same tells [] (y ∷ ys) = (λ e. absurd (true≢false (sym e)), λ e. let long = ap length e in absurd (omega arith))
-Decides-same_lists same tells (x ∷ xs) [] = (λ e. absurd (true≢false (sym e)), λ e. let long = ap length e in absurd (omega arith))
-Decides-same_lists same tells (x ∷ xs) (y ∷ ys) =
-    Decides-like (cond (same x y) (same_lists same xs ys) false) (λ h. ap₂ (λ z zs. z ∷ zs) h.0 h.1) (λ e. (ap (λ zs. get_or zs 0 x) e, ap (drop 1) e))
-    (both_tests (same x y) (same_lists same xs ys) (tells x y) (Decides-same_lists same tells xs ys))
-
-Decides-eq_ℚ : (a b : ℚ) → Decides (eq_ℚ a b) (a ≡ b)
-Decides-eq_ℚ a b =
-    Decides-like (cond (int_eq a.num b.num) (a.den == b.den) false) (λ h. same_parts a b h.0 h.1) (λ e. (ap (λ q. q.num) e, ap (λ q. q.den) e))
-    (both_tests (int_eq a.num b.num) (a.den == b.den) (Decides-int_eq a.num b.num) (Decides-eqb a.den b.den))
-
+-- ---- which forms are equal
 -- the test of forms tells which are equal
-pub Decides-same_forms : (f g : List ℚ) → Decides (same_lists eq_ℚ f g) (f ≡ g)
-Decides-same_forms = Decides-same_lists eq_ℚ Decides-eq_ℚ
+pub Decides-same_forms : (f g : List ℚ) → Decides (pointwise eq_fractions f g) (f ≡ g)
+Decides-same_forms f g = slice_eq-Decides Decides-eq_fractions f g (pointwise eq_fractions f g) refl

@@ -1,9 +1,10 @@
 -- Linear forms, their values at a point, and the distinct ones of a list.
-use Rattle.std.specs.Prelude.{ℕ, ◌<◌, ◌≤◌, ℤ, List, [], ◌∷◌, map, take, length, slice_index_or, Bool, true, false, cond, ◌==◌}
+use Rattle.std.specs.Prelude.{ℕ, ◌<◌, ◌≤◌, ℤ, List, [], ◌∷◌, map, take, length, slice_index_or, Bool, true, false, cond}
 use Rattle.std.specs.List.{filter}
-use Rattle.std.specs.Ordering.{int_eq}
+use Rattle.std.specs.Cmp.Lexicographic.{pointwise}
 use Rattle.crn_fraction.specs.Rational.{ℚ, whole, 0ℚ, ◌+ℚ◌, ◌-ℚ◌, ◌*ℚ◌}
 use Rattle.crn_fraction.specs.Frac.{IsFrac}
+use Rattle.crn_fraction.specs.Equality.{eq_fractions}
 
 -- the value of a form at a point: the sum of the products, up to the end of the shorter list
 abbrev pub at : List ℚ → List ℚ → ℚ
@@ -35,17 +36,6 @@ abbrev pub distinct : {X : Type 0} → (X → X → Bool) → List X → List X
 distinct same [] = []
 distinct same (x ∷ xs) = x ∷ filter (λ y. cond (same x y) false true) (distinct same xs)
 
--- two lists have the same elements in the same places
-abbrev pub same_lists : {X : Type 0} → (X → X → Bool) → List X → List X → Bool
-same_lists same [] [] = true
-same_lists same [] (y ∷ ys) = false
-same_lists same (x ∷ xs) [] = false
-same_lists same (x ∷ xs) (y ∷ ys) = cond (same x y) (same_lists same xs ys) false
-
--- two rational numbers have the same lowest terms
-abbrev pub eq_ℚ : ℚ → ℚ → Bool
-eq_ℚ a b = cond (int_eq a.num b.num) (a.den == b.den) false
-
 -- the distinct forms of a list, by first appearance
 abbrev pub distinct_forms : List (List ℚ) → List (List ℚ)
-distinct_forms forms = distinct (same_lists eq_ℚ) forms
+distinct_forms forms = distinct (pointwise eq_fractions) forms
