@@ -2,12 +2,12 @@
 use Rattle.std.proofs.Common.{◌≡◌, ℕ, ◌≤◌, List, [], length, None, Some, Err, refl, sym, ap, ap₂, ◌∙◌, subst}
 use Rattle.crn_fraction.specs.Rational.{ℚ}
 use Rattle.crn_token.specs.declared.Counted.{Counted}
+use Rattle.crn_grammar.specs.declared.error.TextError.{TextError}
+use Rattle.crn_grammar.specs.declared.error.TextError.TheVariants as error
 use Rattle.crn_grammar.specs.Table as grammar
+use Rattle.crn_grammar.specs.Reading as reading
 use Rattle.crn_formula.specs.Functions.{IsGivenByPieces}
 use Rattle.crn_function_text.specs.Grammar.{PlainFunction}
-use Rattle.crn_function_text.specs.declared.FunctionTextError.{FunctionTextError}
-use Rattle.crn_function_text.specs.declared.FunctionTextError.TheVariants as function
-use Rattle.crn_function_text.specs.Reading as function_text
 use Rattle.crn_net.specs.Network.{Network, IsNetwork, IsFeedForward, AreAmounts, StablyComputes, start, completed, encoded}
 use Rattle.crn_net.specs.declared.Flow.{Flow}
 use Rattle.crn_net.proofs.Settling.{confluent}
@@ -19,9 +19,6 @@ use Rattle.crn_segments.proofs.Runs.{steps_run}
 use Rattle.crn_completer.specs.Refusal.{completion_refusal}
 use Rattle.crn_completer.proofs.Fitting.{completion_fits}
 use Rattle.crn_job.specs.Grammar.{PlainJob}
-use Rattle.crn_job.specs.declared.JobError.{JobError}
-use Rattle.crn_job.specs.declared.JobError.TheVariants as job_error
-use Rattle.crn_job.specs.Reading as job_text
 use Rattle.crn_program.specs.Report.{OutputFits, run_report, refusal}
 use Rattle.crn_program.specs.Finding.{Outcome, OtherKind, RefusedSegment, Unfinished, NoValue, Compiled, Completed, Ran, Unmade, Bulked, Finding, WrongLine, PastLimit, Comes, status_of, text_of, status_of_step, step_words, text_of_outcome}
 use Rattle.crn_program.specs.Runs.{IsRefused, IsCompleted, IsFoundOf, IsFoundOfRun}
@@ -30,7 +27,7 @@ use Rattle.crn_program.specs.Bulk.{halves, halves_refusal}
 use Rattle.crn_bulk.specs.Generator.{bulk_job, bulk_number}
 use Rattle.crn_net.proofs.Completion.{run_end}
 use Rattle.crn_program.specs.Ending.{IsFoundFrom, IsFoundAt, IsFoundAfter, Tells, finding_of_line}
-use Rattle.crn_program.specs.Lines.{line_of_function, line_of_job}
+use Rattle.crn_program.specs.Lines.{line_of_text}
 use Rattle.crn_program.specs.Value.{IsValue, IsNetworkOf}
 use Rattle.crn_program.specs.declared.status.Status.{Status}
 use Rattle.crn_program.specs.declared.status.Status.TheVariants as status
@@ -222,17 +219,11 @@ IsLineFound Right _ = ⊥
 some_same : {X : Type 0} (P : X → Type 0) (x y : X) → Some x ≡ Some y → P x → P y
 some_same P x y same p = let is : x ≡ y = cc same in subst P is p
 
-line_of_function_found : {X V : Type 0} (view : X → V) (e : FunctionTextError) (f : Finding) (Right : grammar.Answer V (Counted × ℕ) → Type 0)
-    → function_text.IsRight view (Err e) Right → finding_of_line (line_of_function e) ≡ Some f → IsLineFound Right f
-line_of_function_found view (function.Malformed n) f Right right is = some_same (IsLineFound Right) _ f is right
-line_of_function_found view (function.Limit what count) f Right right is = some_same (IsLineFound Right) _ f is right
-line_of_function_found view function.Memory f Right right is = absurd (cc is)
-
-line_of_job_found : {X V : Type 0} (view : X → V) (e : JobError) (f : Finding) (Right : grammar.Answer V (Counted × ℕ) → Type 0)
-    → job_text.IsRight view (Err e) Right → finding_of_line (line_of_job e) ≡ Some f → IsLineFound Right f
-line_of_job_found view (job_error.Malformed n) f Right right is = some_same (IsLineFound Right) _ f is right
-line_of_job_found view (job_error.Limit what count) f Right right is = some_same (IsLineFound Right) _ f is right
-line_of_job_found view job_error.Memory f Right right is = absurd (cc is)
+line_of_text_found : {X V : Type 0} (view : X → V) (e : TextError) (f : Finding) (Right : grammar.Answer V (Counted × ℕ) → Type 0)
+    → reading.IsRight view (Err e) Right → finding_of_line (line_of_text e) ≡ Some f → IsLineFound Right f
+line_of_text_found view (error.Malformed n) f Right right is = some_same (IsLineFound Right) _ f is right
+line_of_text_found view (error.Limit what count) f Right right is = some_same (IsLineFound Right) _ f is right
+line_of_text_found view error.Memory f Right right is = absurd (cc is)
 
 line_found : {V : Type 0} (IsRight : List ℕ → grammar.Answer V (Counted × ℕ) → Type 0) (Found : V → Outcome → Type 0) (bytes : List ℕ) (f : Finding)
     → length bytes ≤ text_limit → IsLineFound (IsRight bytes) f → IsFoundInText IsRight Found bytes f
@@ -240,14 +231,8 @@ line_found IsRight Found bytes (WrongLine n) short found = (short, found)
 line_found IsRight Found bytes (PastLimit what count) short found = (short, found)
 line_found IsRight Found bytes _ short found = absurd found
 
-pub says_line_of_function : {X V : Type 0} (view : X → V) (IsRight : List ℕ → grammar.Answer V (Counted × ℕ) → Type 0) (Found : V → Outcome → Type 0) (bytes : List ℕ) (e : FunctionTextError) (s : Status) (text : List ℕ)
-    → length bytes ≤ text_limit → function_text.IsRight view (Err e) (IsRight bytes)
-    → (finding : Finding) × (finding_of_line (line_of_function e) ≡ Some finding) × (s ≡ status_of finding) × (text ≡ text_of finding) → Says (IsFoundInText IsRight Found bytes) s text
-says_line_of_function view IsRight Found bytes e s text short right (finding, is, status_is, text_is) =
-    record { finding = finding; found = line_found IsRight Found bytes finding short (line_of_function_found view e finding (IsRight bytes) right is); status_is = status_is; text_is = text_is }
-
-pub says_line_of_job : {X V : Type 0} (view : X → V) (IsRight : List ℕ → grammar.Answer V (Counted × ℕ) → Type 0) (Found : V → Outcome → Type 0) (bytes : List ℕ) (e : JobError) (s : Status) (text : List ℕ)
-    → length bytes ≤ text_limit → job_text.IsRight view (Err e) (IsRight bytes)
-    → (finding : Finding) × (finding_of_line (line_of_job e) ≡ Some finding) × (s ≡ status_of finding) × (text ≡ text_of finding) → Says (IsFoundInText IsRight Found bytes) s text
-says_line_of_job view IsRight Found bytes e s text short right (finding, is, status_is, text_is) =
-    record { finding = finding; found = line_found IsRight Found bytes finding short (line_of_job_found view e finding (IsRight bytes) right is); status_is = status_is; text_is = text_is }
+pub says_line_of_text : {X V : Type 0} (view : X → V) (IsRight : List ℕ → grammar.Answer V (Counted × ℕ) → Type 0) (Found : V → Outcome → Type 0) (bytes : List ℕ) (e : TextError) (s : Status) (text : List ℕ)
+    → length bytes ≤ text_limit → reading.IsRight view (Err e) (IsRight bytes)
+    → (finding : Finding) × (finding_of_line (line_of_text e) ≡ Some finding) × (s ≡ status_of finding) × (text ≡ text_of finding) → Says (IsFoundInText IsRight Found bytes) s text
+says_line_of_text view IsRight Found bytes e s text short right (finding, is, status_is, text_is) =
+    record { finding = finding; found = line_found IsRight Found bytes finding short (line_of_text_found view e finding (IsRight bytes) right is); status_is = status_is; text_is = text_is }

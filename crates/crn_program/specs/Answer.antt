@@ -2,10 +2,10 @@
 use Rattle.std.specs.Prelude.{ℕ, ◌≡◌, ◌<◌, ◌≤◌, List, length, None, Some}
 use Rattle.crn_fraction.specs.Rational.{ℚ}
 use Rattle.crn_token.specs.declared.Counted.{Counted}
-use Rattle.crn_token.specs.Plain.{plain_lines}
+use Rattle.crn_token.specs.Plain.{plain_lines, line_number, end_of}
 use Rattle.crn_grammar.specs.Table as grammar
 use Rattle.crn_formula.specs.Functions.{IsGivenByPieces}
-use Rattle.crn_function_text.specs.Grammar.{PlainFunction, function_table, line_number, end_of}
+use Rattle.crn_function_text.specs.Grammar.{PlainFunction, function_table}
 use Rattle.crn_net.specs.Network.{Network, start, encoded, after_all, completed}
 use Rattle.crn_net_text.specs.NetworkText.{network_text}
 use Rattle.crn_net_text.specs.Grammar.{network_table}
