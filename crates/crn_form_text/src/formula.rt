@@ -5,7 +5,6 @@ ghost use Rattle.std.specs.Option.{option_map, option_and_then};
 ghost use Rattle.crn_token.specs.Plain.{plain_token};
 ghost use Rattle.crn_grammar.specs.Table.{after};
 ghost use Rattle.crn_formula.specs.Formulas as plain;
-ghost use Rattle.crn_formula.specs.Formulas.{has_constant};
 ghost use Rattle.crn_formula.specs.Views.{plain_of};
 ghost use Rattle.crn_form_text.specs.Grammar.{SpellsFormula};
 ghost use Rattle.crn_form_text.specs.Reading.{number_next, factor_next, factor_value, walks, whole_of, mark_of};
@@ -15,7 +14,7 @@ ghost use Rattle.crn_form_text.specs.Built.{applied, build_next, builds, IsWalkO
 use crate::form::{FormReader, Place, narrow};
 use crate::mark::{Mark, Operator, mark_of};
 use crate::number::Count;
-use crn_formula::Formula;
+use crn_formula::{Formula, has_constant};
 use crn_fraction::Frac;
 use crn_linear::Form;
 use crn_token::Token;
@@ -89,14 +88,6 @@ fn factor_value(place: Place) -> Option<Frac>
         Place::Term(_, count) => count.value(),
         _ => None,
     }
-}
-
-// Whether the constant is not 0.
-fn has_constant(form: &Form, variables: usize) -> bool
-    requires { variables < length form.now }
-    ensures { result ≡ has_constant variables form.now }
-{
-    !form.coeff(variables).is_zero()
 }
 
 /// A walk over the tokens of a formula, without recursion.

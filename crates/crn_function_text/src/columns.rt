@@ -1,4 +1,4 @@
-//! Whether pieces have a constant, and forms without the column for it.
+//! Pieces without the column for constants, where none of them has one.
 
 ghost use Rattle.std.specs.Prelude.{◌≡◌, ◌+◌, ◌≤◌, map, length, take, vec_len, All};
 ghost use Rattle.std.specs.List.{list_any};
@@ -10,7 +10,7 @@ ghost use Rattle.crn_function_text.specs.Columns.{narrow_piece, kept_columns};
 ghost use Rattle.crn_function_text.specs.Reading.{AreKeptPieces};
 
 use crn_form_text::narrow;
-use crn_formula::{Function, FunctionKind, Piece};
+use crn_formula::{Function, FunctionKind, Piece, some_piece_has_constant};
 use crn_linear::Form;
 
 fn narrow_forms(forms: &mut [Form], variables: usize)
@@ -39,40 +39,6 @@ fn narrow_pieces(pieces: &mut [Piece], variables: usize)
     }
 }
 
-// Whether the form has a constant other than 0, in the column past those of the variables.
-fn has_constant(form: &Form, variables: usize) -> bool
-    requires { length form.now ≡ variables + 1 }
-    ensures { result ≡ has_constant variables form.now }
-{
-    !form.coeff(variables).is_zero()
-}
-
-// Whether some form has one.
-fn some_has_constant(forms: &[Form], variables: usize) -> bool
-    requires { All (λ f. length f ≡ variables + 1) forms.now }
-    ensures { result ≡ list_any (has_constant variables) forms.now }
-{
-    forms.iter().any(|form| has_constant(form, variables))
-}
-
-// Whether the form of a piece or a condition has one.
-fn piece_has_constant(piece: &Piece, variables: usize) -> bool
-    requires { IsPieceOver (variables + 1) (piece_of piece.now) }
-    ensures { result ≡ piece_has_constant variables (piece_of piece.now) }
-{
-    has_constant(&piece.form, variables) || some_has_constant(&piece.conditions, variables)
-}
-
-// Whether some piece has one.
-fn some_piece_has_constant(pieces: &[Piece], variables: usize) -> bool
-    requires { All (λ p. IsPieceOver (variables + 1) (piece_of p)) pieces.now }
-    ensures { result ≡ list_any (λ p. piece_has_constant variables (piece_of p)) pieces.now }
-{
-    pieces
-        .iter()
-        .any(|piece| piece_has_constant(piece, variables))
-}
-
 // The pieces without constants.
 fn narrowed(variables: usize, mut pieces: Vec<Piece>) -> Vec<Piece>
     requires { 1 ≤ variables }
@@ -84,8 +50,7 @@ fn narrowed(variables: usize, mut pieces: Vec<Piece>) -> Vec<Piece>
 
 // The pieces with the columns that they need.
 fn kept_columns(variables: usize, pieces: Vec<Piece>) -> Vec<Piece>
-    requires some { 1 ≤ variables }
-    requires over { All (λ p. IsPieceOver (variables + 1) (piece_of p)) pieces.items }
+    requires { 1 ≤ variables }
     ensures { pieces_of result.items ≡ kept_columns variables (pieces_of pieces.items) }
 {
     if some_piece_has_constant(&pieces, variables) {

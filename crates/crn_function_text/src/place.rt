@@ -21,7 +21,7 @@ use crate::FunctionTextError;
 use crate::columns::function_of_pieces;
 use crate::words::{Given, Word, given_of};
 use crn_form_text::{FormulaText, read_form, read_formula, read_plain_form};
-use crn_formula::{Formula, Function, FunctionKind, Piece};
+use crn_formula::{Formula, Function, FunctionKind, Piece, count_conditions};
 use crn_linear::Form;
 use crn_token::words::{letters, rest_of};
 use crn_token::{Counted, Line, Sign, Token};
@@ -212,14 +212,6 @@ fn condition(
     }
     last.conditions.push(condition)?;
     Ok(Place::InPieces(variables, done, last))
-}
-
-// The number of conditions of all pieces together.
-fn count_conditions(pieces: &[Piece]) -> usize
-    requires { sum_by condition_count (pieces_of pieces.now) ≤ 100 }
-    ensures { result ≡ sum_by condition_count (pieces_of pieces.now) }
-{
-    pieces.iter().map(|piece| piece.conditions.len()).sum()
 }
 
 // A form without negative coefficients, after the first token of a line and up to its end.

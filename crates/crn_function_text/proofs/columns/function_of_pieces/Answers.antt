@@ -5,9 +5,6 @@ use Rattle.crn_formula.proofs.Lists.{All-map}
 use Rattle.crn_function_text.proofs.Narrowing.{kept_fits}
 use Rattle.crn_function_text.proofs.columns.function_of_pieces.Goals as goal
 
-pub kept_columns-requires-clause-over : goal.kept_columns-requires-clause-over
-kept_columns-requires-clause-over c = (All-map piece_of (IsPieceOver (c.args.variables + 1)) c.args.pieces.items).1 c.requires.kept.over
-
 pub of-requires : goal.of-requires
 of-requires c =
     subst (λ ps. IsFitting c.args.variables (ByPieces ps)) (sym c.kept_columns.ensures)
