@@ -118,18 +118,40 @@ whole (InPieces k done last) = Some (record { variables = k; kind = ByPieces (ke
 whole (InForms k forms) = Some (record { variables = k; kind = ByLeast forms })
 
 -- ---- limits, which do not belong to the grammar
+-- the greatest numbers of variables, of nodes and of nodes below one another
+abbrev pub most_variables : ℕ
+most_variables = 8
+
+abbrev pub most_nodes : ℕ
+most_nodes = 2048
+
+abbrev pub most_depth : ℕ
+most_depth = 64
+
+-- the greatest numbers of pieces, of conditions of one piece and of all together, and of direct forms
+abbrev pub most_pieces : ℕ
+most_pieces = 32
+
+abbrev pub most_conditions : ℕ
+most_conditions = 16
+
+abbrev pub most_all_conditions : ℕ
+most_all_conditions = 100
+
+abbrev pub most_forms : ℕ
+most_forms = 32
 
 -- the limit that the last line passed
 abbrev pub limit : Place → Option (Counted × ℕ)
 limit Start = None
 limit (Header g) = None
-limit (Sized g k) = above 8 counted.Variables k
-limit (Valued k e) = or_else (above 2048 counted.Nodes (node_count e)) (above 64 counted.Depth (depth_of e))
+limit (Sized g k) = above most_variables counted.Variables k
+limit (Valued k e) = or_else (above most_nodes counted.Nodes (node_count e)) (above most_depth counted.Depth (depth_of e))
 limit (InPieces k done last) =
-    or_else (above 32 counted.Pieces (length done + 1))
-    (or_else (above 16 counted.Conditions (length last.conditions))
-    (above 100 counted.AllConditions (sum_by condition_count done + length last.conditions)))
-limit (InForms k forms) = above 32 counted.Forms (length forms)
+    or_else (above most_pieces counted.Pieces (length done + 1))
+    (or_else (above most_conditions counted.Conditions (length last.conditions))
+    (above most_all_conditions counted.AllConditions (sum_by condition_count done + length last.conditions)))
+limit (InForms k forms) = above most_forms counted.Forms (length forms)
 
 -- the grammar
 abbrev pub function_table : Table Place PlainLine PlainFunction (Counted × ℕ)

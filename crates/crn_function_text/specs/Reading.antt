@@ -35,7 +35,7 @@ pub record AreKeptForms (k : ℕ) (forms : List (List ℚ)) : Type 0 where
 abbrev pub IsKept : grammar.Place → Type 0
 IsKept grammar.Start = Unit {0}
 IsKept (grammar.Header g) = Unit {0}
-IsKept (grammar.Sized g k) = (1 ≤ k) × (k ≤ 8)
+IsKept (grammar.Sized g k) = (1 ≤ k) × (k ≤ grammar.most_variables)
 IsKept (grammar.Valued k e) = IsFitting k (ByFormula e)
-IsKept (grammar.InPieces k done last) = (1 ≤ k) × (k ≤ 8) × AreKeptPieces k (done ++ last ∷ [])
-IsKept (grammar.InForms k forms) = (1 ≤ k) × (k ≤ 8) × AreKeptForms k forms
+IsKept (grammar.InPieces k done last) = (1 ≤ k) × (k ≤ grammar.most_variables) × AreKeptPieces k (done ++ last ∷ [])
+IsKept (grammar.InForms k forms) = (1 ≤ k) × (k ≤ grammar.most_variables) × AreKeptForms k forms

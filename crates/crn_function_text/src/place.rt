@@ -27,6 +27,21 @@ use crn_token::words::{letters, rest_of};
 use crn_token::{Counted, Line, Sign, Token};
 use std::alloc::Global;
 
+/// The greatest number of variables.
+const MOST_VARIABLES: u64 = 8;
+
+/// The greatest number of pieces.
+const MOST_PIECES: usize = 32;
+
+/// The greatest number of conditions of one piece.
+const MOST_CONDITIONS: usize = 16;
+
+/// The greatest number of conditions of all pieces together.
+const MOST_ALL_CONDITIONS: usize = 100;
+
+/// The greatest number of direct forms.
+const MOST_FORMS: usize = 32;
+
 /// Where a text stands, with what was read so far.
 #[derive(Drop)]
 pub enum Place {
@@ -57,13 +72,14 @@ fn size(bytes: &[u8], line: usize, given: Given, rest: &[Token]) -> Result<Place
 {
     match rest {
         [Token::Number(variables, _)] if *variables > 0 => {
-            if *variables > 8 {
+            let count = *variables as u64;
+            if count > MOST_VARIABLES {
                 return Err(FunctionTextError::Limit {
                     what: Counted::Variables,
-                    count: *variables as u64,
+                    count,
                 });
             }
-            Ok(Place::Sized(given, *variables as usize))
+            Ok(Place::Sized(given, count as usize))
         }
         _ => Err(FunctionTextError::Malformed { line }),
     }
@@ -78,7 +94,7 @@ fn value(
     rest: &[Token],
 ) -> Result<Place, FunctionTextError>
     requires some { 1 ≤ variables }
-    requires few { variables ≤ 8 }
+    requires few { variables ≤ MOST_VARIABLES }
     ensures { Gives shown result (judged grammar.limit line (option_map (λ e. grammar.Valued variables (fitted variables e)) (formula_of variables (map (plain_token bytes.now) rest.now)))) }
 {
     match read_formula(alloc, bytes, rest, variables)? {
@@ -104,7 +120,7 @@ fn first_piece(
     rest: &[Token],
 ) -> Result<Place, FunctionTextError>
     requires some { 1 ≤ variables }
-    requires few { variables ≤ 8 }
+    requires few { variables ≤ MOST_VARIABLES }
     ensures { Gives shown result (judged grammar.limit line (option_map (λ f. grammar.InPieces variables [] (grammar.new_piece f)) (form_of variables (map (plain_token bytes.now) rest.now)))) }
 {
     match read_form(bytes, rest, variables) {
@@ -134,7 +150,7 @@ fn next_piece(
     rest: &[Token],
 ) -> Result<Place, FunctionTextError>
     requires some { 1 ≤ variables }
-    requires few { variables ≤ 8 }
+    requires few { variables ≤ MOST_VARIABLES }
     requires kept { AreKeptPieces variables (pieces_of done.items ++ piece_of last ∷ []) }
     ensures { Gives shown result (judged grammar.limit line (option_map (λ f. grammar.InPieces variables (pieces_of done.items ++ piece_of last ∷ []) (grammar.new_piece f)) (form_of variables (map (plain_token bytes.now) rest.now)))) }
 {
@@ -142,7 +158,7 @@ fn next_piece(
         return Err(FunctionTextError::Malformed { line });
     };
     let pieces = done.len() + 2;
-    if pieces > 32 {
+    if pieces > MOST_PIECES {
         return Err(FunctionTextError::Limit {
             what: Counted::Pieces,
             count: pieces as u64,
@@ -155,7 +171,7 @@ fn next_piece(
 // A form, and then `>= 0`.
 fn read_condition(bytes: &[u8], variables: usize, rest: &[Token]) -> Option<Form>
     requires some { 1 ≤ variables }
-    requires few { variables ≤ 8 }
+    requires few { variables ≤ MOST_VARIABLES }
     ensures { result ≡ grammar.condition_of variables (map (plain_token bytes.now) rest.now) }
 {
     if rest.len() < 2 {
@@ -189,7 +205,7 @@ fn condition(
     rest: &[Token],
 ) -> Result<Place, FunctionTextError>
     requires some { 1 ≤ variables }
-    requires few { variables ≤ 8 }
+    requires few { variables ≤ MOST_VARIABLES }
     requires kept { AreKeptPieces variables (pieces_of done.items ++ piece_of last ∷ []) }
     ensures { Gives shown result (judged grammar.limit line (option_map (λ c. grammar.InPieces variables (pieces_of done.items) (grammar.with_condition (piece_of last) c)) (grammar.condition_of variables (map (plain_token bytes.now) rest.now)))) }
 {
@@ -197,14 +213,14 @@ fn condition(
         return Err(FunctionTextError::Malformed { line });
     };
     let count = last.conditions.len() + 1;
-    if count > 16 {
+    if count > MOST_CONDITIONS {
         return Err(FunctionTextError::Limit {
             what: Counted::Conditions,
             count: count as u64,
         });
     }
     let together = count_conditions(&done) + count;
-    if together > 100 {
+    if together > MOST_ALL_CONDITIONS {
         return Err(FunctionTextError::Limit {
             what: Counted::AllConditions,
             count: together as u64,
@@ -217,7 +233,7 @@ fn condition(
 // A form without negative coefficients, after the first token of a line and up to its end.
 fn read_direct_form(bytes: &[u8], line: &Line, variables: usize) -> Option<Form>
     requires some { 1 ≤ variables }
-    requires few { variables ≤ 8 }
+    requires few { variables ≤ MOST_VARIABLES }
     ensures { result ≡ plain_form_of variables (map (plain_token bytes.now) (rest_of line.now.tokens.items)) }
 {
     if line.tokens.is_empty() {
@@ -237,7 +253,7 @@ fn first_form(
     variables: usize,
 ) -> Result<Place, FunctionTextError>
     requires some { 1 ≤ variables }
-    requires few { variables ≤ 8 }
+    requires few { variables ≤ MOST_VARIABLES }
     ensures { Gives shown result (judged grammar.limit line.now.number (option_map (λ f. grammar.InForms variables (f ∷ [])) (plain_form_of variables (map (plain_token bytes.now) (rest_of line.now.tokens.items))))) }
 {
     let Some(form) = read_direct_form(bytes, line, variables) else {
@@ -256,7 +272,7 @@ fn next_form(
     mut forms: Vec<Form>,
 ) -> Result<Place, FunctionTextError>
     requires some { 1 ≤ variables }
-    requires few { variables ≤ 8 }
+    requires few { variables ≤ MOST_VARIABLES }
     requires kept { AreKeptForms variables forms.items }
     ensures { Gives shown result (judged grammar.limit line.now.number (option_map (λ f. grammar.InForms variables (forms.items ++ f ∷ [])) (plain_form_of variables (map (plain_token bytes.now) (rest_of line.now.tokens.items))))) }
 {
@@ -264,7 +280,7 @@ fn next_form(
         return Err(FunctionTextError::Malformed { line: line.number });
     };
     let count = forms.len() + 1;
-    if count > 32 {
+    if count > MOST_FORMS {
         return Err(FunctionTextError::Limit {
             what: Counted::Forms,
             count: count as u64,

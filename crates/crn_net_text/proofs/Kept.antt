@@ -22,7 +22,7 @@ use Rattle.crn_net.specs.declared.Rails.TheVariants.{Dual, Direct}
 use Rattle.crn_net.specs.declared.Ends.{Ends}
 use Rattle.crn_net.specs.declared.Ends.TheVariants.{Pair, One}
 use Rattle.crn_net.proofs.InputLists.{species_push, ends_push, different-append, end_different}
-use Rattle.crn_net_text.specs.Grammar.{Place, Start, Titled, Naming, Placed, Closed, Listing, least, frame, with_reaction, is_named, is_new, leaves_one, rails_of, version_of, title_with, title, sized, size, with_input, with_context, with_output, after_inputs, naming, count, listing, follow, limit, network_table, number_of, one_of, ends_of, reaction_of}
+use Rattle.crn_net_text.specs.Grammar.{Place, Start, Titled, Naming, Placed, Closed, Listing, least, frame, with_reaction, is_named, is_new, leaves_one, rails_of, version_of, title_with, title, sized, size, with_input, with_context, with_output, after_inputs, naming, count, listing, follow, limit, network_table, number_of, one_of, ends_of, reaction_of, most_species, most_reactions, most_inputs}
 use Rattle.crn_net_text.specs.Reading.{AreNamed, IsFramed, IsFine, AreFew, IsLow, IsKept}
 use Rattle.crn_net_text.proofs.Found.{both, ends_found, one_found, reaction_found}
 use Rattle.crn_token.proofs.Options.{some_alike, then_found, map_found, if_found, else_found}
@@ -86,7 +86,7 @@ after_size rails two ts t is =
     let some : 1 ≤ n = omega (arith, fits, some_least rails two) in
     subst (Leads (Titled rails two)) (some_alike (Naming rails two n []) t same) (
       record { enough = fits; ends = tt; different = tt; leaves = none_named two n some },
-      λ low none. (some, not_passed 65536 counted.Species n (neither (above 65536 counted.Species n) (above 8 counted.Inputs 0) none).0, omega arith),
+      λ low none. (some, not_passed most_species counted.Species n (neither (above most_species counted.Species n) (above most_inputs counted.Inputs 0) none).0, omega arith),
     )
 
 no_reactions : (rails : Rails) (n : ℕ) (inputs : List Ends) (two : Bool) (context : Option ℕ) (e : Ends) → AreNamed rails two n inputs → 0 < length inputs → IsContext n inputs context → IsEnds rails n e → IsFramed (frame rails n inputs context e)
@@ -121,7 +121,7 @@ after_input rails two n inputs ts t named is =
         different = subst AreDifferent (sym (species_push inputs e)) (different-append (input_species inputs) (species_of e) named.different (end_different rails n e end) (new_input inputs e new));
         leaves = leaves;
       },
-      λ low none. let (species, many) = neither (above 65536 counted.Species n) (above 8 counted.Inputs (length (inputs ++ e ∷ []))) none in (low.0, low.1, not_passed 8 counted.Inputs (length (inputs ++ e ∷ [])) many),
+      λ low none. let (species, many) = neither (above most_species counted.Species n) (above most_inputs counted.Inputs (length (inputs ++ e ∷ []))) none in (low.0, low.1, not_passed most_inputs counted.Inputs (length (inputs ++ e ∷ [])) many),
     )
 
 after_naming : (rails : Rails) (two : Bool) (n : ℕ) (inputs : List Ends) (ts : List Plain) (t : Place) → AreNamed rails two n inputs → 0 < length inputs → after_inputs rails two n inputs ts ≡ Some t → Leads (Naming rails two n inputs) t
@@ -147,7 +147,7 @@ after_count : (net : Network) (ts : List Plain) (t : Place) → IsFramed net →
 after_count net ts t framed none is =
     let (test, rest) = if_found (begins (codes "reactions") ts) (option_map (λ m. Listing m net) (number_of (rest_of ts))) t is in
     let (m, number, same) = map_found (λ m. Listing m net) (number_of (rest_of ts)) t rest in
-    subst (Leads (Closed net)) same (framed, λ low few. (low, not_passed 65536 counted.Reactions (length net.reactions + m) few))
+    subst (Leads (Closed net)) same (framed, λ low few. (low, not_passed most_reactions counted.Reactions (length net.reactions + m) few))
 
 -- one reaction more
 pub each_later : (P : Reaction → Type 0) (x : Reaction) (xs : List Reaction) → ((q : ℕ) → 1 ≤ q → q ≤ length (x ∷ xs) → P (numbered (x ∷ xs) q)) → (q : ℕ) → 1 ≤ q → q ≤ length xs → P (numbered xs q)

@@ -10,7 +10,7 @@ use Rattle.crn_token.specs.Words.{rest_of, begins, number_at}
 use Rattle.crn_grammar.specs.Limits.{above}
 use Rattle.crn_net.specs.Network.{Part, Reaction, Network}
 use Rattle.crn_net.specs.declared.Rails.{Rails}
-use Rattle.crn_net_text.specs.Grammar.{Titled, Listing, within, species_at, many, part_by, part_at, side_at, side_of, gives_of, reaction_with, reaction_of, is_arrow, is_nothing, number_of, is_plus, rails_of, version_of, title_with, sized, size, count, limit}
+use Rattle.crn_net_text.specs.Grammar.{Titled, Listing, within, species_at, many, part_by, part_at, side_at, side_of, gives_of, reaction_with, reaction_of, is_arrow, is_nothing, number_of, is_plus, rails_of, version_of, title_with, sized, size, count, limit, most_reactions}
 use Rattle.crn_grammar.specs.Reading.{judged}
 use Rattle.crn_net_text.proofs.Found.{next_side}
 
@@ -97,12 +97,12 @@ count_by net ts us o begin us_is number =
 pub none_read : (m : ℕ) (net : Network) → net.reactions ≡ [] → length net.reactions + m ≡ m
 none_read m net none = omega (arith, ap length none)
 
-pub count_past : (line m : ℕ) (net : Network) → net.reactions ≡ [] → 65536 < m → judged limit line (Some (Listing m net)) ≡ Limited (counted.Reactions, m)
+pub count_past : (line m : ℕ) (net : Network) → net.reactions ≡ [] → most_reactions < m → judged limit line (Some (Listing m net)) ≡ Limited (counted.Reactions, m)
 count_past line m net none past =
-    ap (λ k. option_map_or (λ what. Limited what) (above 65536 counted.Reactions k) (Read (Listing m net))) (none_read m net none)
-    ∙ ap (λ b. option_map_or (λ what. Limited what) (cond b (Some (counted.Reactions, m)) None) (Read (Listing m net))) (lt-ltb 65536 m past)
+    ap (λ k. option_map_or (λ what. Limited what) (above most_reactions counted.Reactions k) (Read (Listing m net))) (none_read m net none)
+    ∙ ap (λ b. option_map_or (λ what. Limited what) (cond b (Some (counted.Reactions, m)) None) (Read (Listing m net))) (lt-ltb most_reactions m past)
 
-pub count_low : (line m : ℕ) (net : Network) → net.reactions ≡ [] → m ≤ 65536 → judged limit line (Some (Listing m net)) ≡ Read (Listing m net)
+pub count_low : (line m : ℕ) (net : Network) → net.reactions ≡ [] → m ≤ most_reactions → judged limit line (Some (Listing m net)) ≡ Read (Listing m net)
 count_low line m net none low =
-    ap (λ k. option_map_or (λ what. Limited what) (above 65536 counted.Reactions k) (Read (Listing m net))) (none_read m net none)
-    ∙ ap (λ b. option_map_or (λ what. Limited what) (cond b (Some (counted.Reactions, m)) None) (Read (Listing m net))) (le-ltb 65536 m low)
+    ap (λ k. option_map_or (λ what. Limited what) (above most_reactions counted.Reactions k) (Read (Listing m net))) (none_read m net none)
+    ∙ ap (λ b. option_map_or (λ what. Limited what) (cond b (Some (counted.Reactions, m)) None) (Read (Listing m net))) (le-ltb most_reactions m low)

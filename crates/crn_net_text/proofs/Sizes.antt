@@ -13,7 +13,7 @@ use Rattle.crn_net.specs.Network.{Network}
 use Rattle.crn_net.specs.Limits.{IsWithinLimits}
 use Rattle.crn_net.specs.declared.Rails.{Rails}
 use Rattle.crn_net.specs.declared.Ends.{Ends}
-use Rattle.crn_net_text.specs.Grammar.{Place, Start, Titled, Naming, Placed, Closed, Listing, frame, with_reaction, number_of, one_of, ends_of, is_named, is_new, leaves_one, with_input, with_context, with_output, after_inputs, naming, reaction_of, follow, limit, network_table}
+use Rattle.crn_net_text.specs.Grammar.{Place, Start, Titled, Naming, Placed, Closed, Listing, frame, with_reaction, number_of, one_of, ends_of, is_named, is_new, leaves_one, with_input, with_context, with_output, after_inputs, naming, reaction_of, follow, limit, network_table, most_species, most_reactions, most_inputs}
 use Rattle.crn_net_text.specs.Reading.{IsFine, AreFew, IsLow}
 use Rattle.crn_token.proofs.Options.{some_alike, then_found, map_found, if_found, else_found}
 use Rattle.crn_net_text.proofs.Kept.{leads}
@@ -22,10 +22,10 @@ use Rattle.crn_net_text.proofs.Spelled.{whole_at}
 low_passes : (s : Place) → IsLow s → limit s ≡ None
 low_passes Start low = refl
 low_passes (Titled rails two) low = refl
-low_passes (Naming rails two n inputs) low = ap₂ or_else (not_above 65536 counted.Species n low.1) (not_above 8 counted.Inputs (length inputs) low.2)
+low_passes (Naming rails two n inputs) low = ap₂ or_else (not_above most_species counted.Species n low.1) (not_above most_inputs counted.Inputs (length inputs) low.2)
 low_passes (Placed rails n inputs k) low = refl
 low_passes (Closed net) low = refl
-low_passes (Listing m net) low = not_above 65536 counted.Reactions (length net.reactions + m) low.1
+low_passes (Listing m net) low = not_above most_reactions counted.Reactions (length net.reactions + m) low.1
 
 -- ---- where a line leads to a small place, it comes from one
 output_few : (rails : Rails) (n : ℕ) (inputs : List Ends) (context : Option ℕ) (ts : List Plain) (t : Place) → with_output rails n inputs context ts ≡ Some t → IsLow t → AreFew n inputs

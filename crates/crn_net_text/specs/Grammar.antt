@@ -233,14 +233,25 @@ is_open _ = true
 abbrev pub goes_on : Place → PlainLine → Bool
 goes_on place line = is_open place
 
+-- ---- limits, which do not belong to the grammar
+-- the greatest numbers of species, of reactions and of inputs
+abbrev pub most_species : ℕ
+most_species = 65536
+
+abbrev pub most_reactions : ℕ
+most_reactions = 65536
+
+abbrev pub most_inputs : ℕ
+most_inputs = 8
+
 -- the limit that the last line passed
 abbrev pub limit : Place → Option (Counted × ℕ)
 limit Start = None
 limit (Titled rails two) = None
-limit (Naming rails two n inputs) = or_else (above 65536 counted.Species n) (above 8 counted.Inputs (length inputs))
+limit (Naming rails two n inputs) = or_else (above most_species counted.Species n) (above most_inputs counted.Inputs (length inputs))
 limit (Placed rails n inputs k) = None
 limit (Closed net) = None
-limit (Listing m net) = above 65536 counted.Reactions (length net.reactions + m)
+limit (Listing m net) = above most_reactions counted.Reactions (length net.reactions + m)
 
 abbrev pub network_table : Table Place PlainLine Network (Counted × ℕ)
 network_table = record { start = Start; next = next; whole = whole; limit = limit }

@@ -40,7 +40,7 @@ IsFine (grammar.Listing m net) = IsFramed net
 
 -- the sizes that the lines so far give
 abbrev pub AreFew : ℕ → List Ends → Type 0
-AreFew n inputs = (1 ≤ n) × (n ≤ 65536) × (length inputs ≤ 8)
+AreFew n inputs = (1 ≤ n) × (n ≤ grammar.most_species) × (length inputs ≤ grammar.most_inputs)
 
 abbrev pub IsLow : grammar.Place → Type 0
 IsLow grammar.Start = Unit {0}
@@ -48,7 +48,7 @@ IsLow (grammar.Titled rails two) = Unit {0}
 IsLow (grammar.Naming rails two n inputs) = AreFew n inputs
 IsLow (grammar.Placed rails n inputs k) = AreFew n inputs
 IsLow (grammar.Closed net) = AreFew net.species net.inputs
-IsLow (grammar.Listing m net) = AreFew net.species net.inputs × (length net.reactions + m ≤ 65536)
+IsLow (grammar.Listing m net) = AreFew net.species net.inputs × (length net.reactions + m ≤ grammar.most_reactions)
 
 -- what holds at each place to which lines lead of which none passed a limit
 abbrev pub IsKept : grammar.Place → Type 0

@@ -18,6 +18,15 @@ use crn_token::words::{begins, number_at, rest_of};
 use crn_token::{Counted, Token};
 use std::alloc::Global;
 
+/// The greatest number of species.
+const MOST_SPECIES: u64 = 65_536;
+
+/// The greatest number of reactions.
+const MOST_REACTIONS: u64 = 65_536;
+
+/// The greatest number of inputs.
+const MOST_INPUTS: usize = 8;
+
 /// Where a text stands, with what was read so far.
 #[derive(Drop)]
 pub enum Place {
@@ -122,7 +131,7 @@ fn sized(
     if species < least(rails, context) {
         return Err(NetTextError::Malformed { line });
     }
-    if species > 65_536 {
+    if species > MOST_SPECIES {
         return Err(NetTextError::Limit {
             what: Counted::Species,
             count: species,
@@ -181,7 +190,7 @@ fn is_new(inputs: &[Ends], ends: Ends) -> bool
 
 // Whether some species is not named.
 fn some_left(species: u32, inputs: &[Ends]) -> bool
-    requires { species ≤ 65536 }
+    requires { species ≤ MOST_SPECIES }
     ensures { result ≡ grammar.some_left species inputs.now }
 {
     for s in 1..species + 1 {
@@ -194,7 +203,7 @@ fn some_left(species: u32, inputs: &[Ends]) -> bool
 
 // Whether one is left for the context, where there is to be one.
 fn leaves_one(context: bool, species: u32, inputs: &[Ends]) -> bool
-    requires { species ≤ 65536 }
+    requires { species ≤ MOST_SPECIES }
     ensures { result ≡ grammar.leaves_one context species inputs.now }
 {
     if context {
@@ -213,8 +222,8 @@ fn with_input(
     mut inputs: Vec<Ends>,
     ends: Ends,
 ) -> Result<Place, NetTextError>
-    requires species { species ≤ 65536 }
-    requires few { length inputs.items ≤ 8 }
+    requires species { species ≤ MOST_SPECIES }
+    requires few { length inputs.items ≤ MOST_INPUTS }
     ensures { Gives place_of result (judged grammar.limit line (grammar.with_input rails context species inputs.items ends)) }
 {
     if !is_new(&inputs, ends) {
@@ -225,7 +234,7 @@ fn with_input(
         return Err(NetTextError::Malformed { line });
     }
     let count = inputs.len();
-    if count > 8 {
+    if count > MOST_INPUTS {
         return Err(NetTextError::Limit {
             what: Counted::Inputs,
             count: count as u64,
@@ -305,8 +314,8 @@ fn naming(
     inputs: Vec<Ends>,
     tokens: &[Token],
 ) -> Result<Place, NetTextError>
-    requires species { species ≤ 65536 }
-    requires few { length inputs.items ≤ 8 }
+    requires species { species ≤ MOST_SPECIES }
+    requires few { length inputs.items ≤ MOST_INPUTS }
     ensures { Gives place_of result (judged grammar.limit line (grammar.naming rails context species inputs.items (map (plain_token bytes.now) tokens.now))) }
 {
     if begins(bytes, tokens, b"input") {
@@ -332,7 +341,7 @@ fn count(bytes: &[u8], line: usize, parts: Parts, tokens: &[Token]) -> Result<Pl
     if begins(bytes, tokens, b"reactions") {
         match number_of(rest_of(tokens)) {
             Some(reactions) => {
-                if reactions > 65_536 {
+                if reactions > MOST_REACTIONS {
                     return Err(NetTextError::Limit {
                         what: Counted::Reactions,
                         count: reactions,
@@ -356,7 +365,7 @@ fn listing(
     mut parts: Parts,
     tokens: &[Token],
 ) -> Result<Place, NetTextError>
-    requires { length parts.reactions.items + left ≤ 65536 }
+    requires { length parts.reactions.items + left ≤ MOST_REACTIONS }
     ensures { Gives place_of result (judged grammar.limit line (grammar.listing left (network_of parts) (map (plain_token bytes.now) tokens.now))) }
 {
     if left == 0 {

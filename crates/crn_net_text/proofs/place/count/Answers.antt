@@ -7,19 +7,19 @@ use Rattle.crn_token.proofs.LineLaws.{rest_map}
 use Rattle.crn_net_text.proofs.Readers.{count_by, count_past, count_low}
 use Rattle.crn_net_text.proofs.place.count.Goals as goal
 
-pub returns-then-reactions-gt65536 : goal.returns-then-reactions-gt65536
-returns-then-reactions-gt65536 c =
+pub returns-then-reactions-gt-MOST_REACTIONS : goal.returns-then-reactions-gt-MOST_REACTIONS
+returns-then-reactions-gt-MOST_REACTIONS c =
     let pt = plain_token c.args.bytes.now in
     ap (judged limit c.args.line) (sym (count_by (network_of c.args.parts) (map pt c.args.tokens.now) (map pt c.rest_of.result.now) _ (sym c.begins.ensures ∙ c.if-begins.true)
     (ap (map pt) c.rest_of.ensures ∙ sym (rest_map pt c.args.tokens.now)) (c.in-Some.ensures c.args.bytes.now)))
-    ∙ count_past c.args.line c.in-Some.reactions (network_of c.args.parts) (ap reactions_of c.requires) c.if-reactions-gt65536.true
+    ∙ count_past c.args.line c.in-Some.reactions (network_of c.args.parts) (ap reactions_of c.requires) c.if-reactions-gt-MOST_REACTIONS.true
 
-pub returns-else-reactions-gt65536 : goal.returns-else-reactions-gt65536
-returns-else-reactions-gt65536 c =
+pub returns-else-reactions-gt-MOST_REACTIONS : goal.returns-else-reactions-gt-MOST_REACTIONS
+returns-else-reactions-gt-MOST_REACTIONS c =
     let pt = plain_token c.args.bytes.now in
     ap (judged limit c.args.line) (sym (count_by (network_of c.args.parts) (map pt c.args.tokens.now) (map pt c.rest_of.result.now) _ (sym c.begins.ensures ∙ c.if-begins.true)
     (ap (map pt) c.rest_of.ensures ∙ sym (rest_map pt c.args.tokens.now)) (c.in-Some.ensures c.args.bytes.now)))
-    ∙ count_low c.args.line c.in-Some.reactions (network_of c.args.parts) (ap reactions_of c.requires) c.if-reactions-gt65536.false
+    ∙ count_low c.args.line c.in-Some.reactions (network_of c.args.parts) (ap reactions_of c.requires) c.if-reactions-gt-MOST_REACTIONS.false
 
 pub returns-in-None : goal.returns-in-None
 returns-in-None c =
