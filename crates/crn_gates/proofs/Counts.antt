@@ -70,8 +70,8 @@ module _ (P : ℕ → Type 0) (small : (n : ℕ) → n < 2 ^ 63 → P n) where
 
   transfer_counts : (f : Factor) (a b y z : ℕ) → IsCounted f → EachCountOn P (transfer f a b y z)
   transfer_counts Zero a b y z counts = tt
-  transfer_counts (Up p q) a b y z counts = ((counts.1, tt), (counts.0, tt), (counts.1, tt), (counts.0, tt), tt)
-  transfer_counts (Down p q) a b y z counts = ((counts.1, tt), (counts.0, tt), (counts.1, tt), (counts.0, tt), tt)
+  transfer_counts (Up p q) a b y z counts = ((counts.1, tt), (counts.0, tt), ((counts.1, tt), (counts.0, tt), tt))
+  transfer_counts (Down p q) a b y z counts = ((counts.1, tt), (counts.0, tt), ((counts.1, tt), (counts.0, tt), tt))
 
   pub scale_counts : (f : Factor) → IsCounted f → EachCountOn P (scale_table f)
   scale_counts f counts = transfer_counts f 0 1 2 3 counts
@@ -115,18 +115,16 @@ module _ (P : ℕ → Type 0) (small : (n : ℕ) → n < 2 ^ 63 → P n) where
   -- ---- tables of ones
 
   pub min_one_counts : EachCountOn P min_one_table
-  min_one_counts = ((one_is, one_is, tt), (one_is, tt), tt)
+  min_one_counts = ((one_is, (one_is, tt)), (one_is, tt), tt)
 
   pub add_counts : EachCountOn P add_table
-  add_counts = ((one_is, tt), (one_is, tt), (one_is, tt), (one_is, tt), (one_is, tt), (one_is, tt), (one_is, tt), (one_is, tt), tt)
+  add_counts = ((one_is, tt), (one_is, tt), ((one_is, tt), (one_is, tt), ((one_is, tt), (one_is, tt), ((one_is, tt), (one_is, tt), tt))))
 
   pub sub_counts : EachCountOn P sub_table
-  sub_counts = ((one_is, tt), (one_is, tt), (one_is, tt), (one_is, tt), (one_is, tt), (one_is, tt), (one_is, tt), (one_is, tt), tt)
+  sub_counts = ((one_is, tt), (one_is, tt), ((one_is, tt), (one_is, tt), ((one_is, tt), (one_is, tt), ((one_is, tt), (one_is, tt), tt))))
 
   pub min_counts : EachCountOn P min_table
-  min_counts =
-      ((one_is, tt), (one_is, tt), (one_is, tt), (one_is, one_is, tt), (one_is, tt), (one_is, tt), (one_is, tt), (one_is, one_is, tt), (one_is, one_is, tt), (one_is, tt), tt)
+  min_counts = ((one_is, tt), (one_is, tt), ((one_is, tt), (one_is, (one_is, tt)), ((one_is, tt), (one_is, tt), ((one_is, tt), (one_is, (one_is, tt)), ((one_is, (one_is, tt)), (one_is, tt), tt)))))
 
   pub max_counts : EachCountOn P max_table
-  max_counts =
-      ((one_is, tt), (one_is, tt), (one_is, tt), (one_is, one_is, tt), (one_is, tt), (one_is, tt), (one_is, tt), (one_is, one_is, tt), (one_is, one_is, tt), (one_is, tt), tt)
+  max_counts = ((one_is, tt), (one_is, tt), ((one_is, tt), (one_is, (one_is, tt)), ((one_is, tt), (one_is, tt), ((one_is, tt), (one_is, (one_is, tt)), ((one_is, (one_is, tt)), (one_is, tt), tt)))))
