@@ -1,5 +1,6 @@
 -- One line more of a text or of a part, as a reader goes along the lines, and its end.
 use Rattle.std.proofs.Common.{◌≡◌, ℕ, ◌+◌, ◌≤◌, Bool, true, false, List, [], ◌∷◌, length, drop, Option, Some, None, Result, Ok, Err, refl, sym, ◌∙◌, ap, ap₂, subst, arith}
+use Rattle.std.specs.Prelude.{IsErrAnd}
 use Rattle.std.specs.Option.{option_map_or}
 use Rattle.crn_token.specs.declared.Counted.{Counted}
 use Rattle.crn_token.specs.declared.Line.{Line}
@@ -48,6 +49,11 @@ module _ {S : Type 0} (limit : S → Option (Counted × ℕ)) (number : ℕ) whe
           let same : ◌≡◌ {A = Answer S (Counted × ℕ)} (Limited other) (Limited what) = sym (ap (λ l. option_map_or (λ w. Limited w) l (Read u)) past) ∙ is in
           let alike : other ≡ what = cc in
           (u, refl, past ∙ ap (λ w. Some w) alike)
+
+-- what is refused with an error of a call is refused so
+pub passed_on : {X Y : Type 0} (view : X → Y) (r : Result X TextError) (e : TextError) (a : Answer Y (Counted × ℕ)) → IsErrAnd r (λ f. f ≡ e) → Refuses e a → Gives view r a
+passed_on view (Ok x) e a is refuses = absurd is
+passed_on view (Err f) e a is refuses = subst (λ g. Refuses g a) (sym is) refuses
 
 -- ---- a call gives what is right where it gives the answer
 pub right_given : {X Y : Type 0} (view : X → Y) (Right : Answer Y (Counted × ℕ) → Type 0) (r : Result X TextError) (a : Answer Y (Counted × ℕ)) → Gives view r a → Right a → IsRight view r Right

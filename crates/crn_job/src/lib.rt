@@ -128,10 +128,8 @@ fn read_text(alloc: Global, bytes: &[u8]) -> Result<Job, JobError>
     ensures amounts { IfOk result (λ j. (length j.amounts.items ≡ amount_count (function_of j.function)) × AreNotNegative j.amounts.items) }
 {
     let lines = token_lines(alloc, bytes)?;
-    match read_function_lines(alloc, bytes, &lines, 0) {
-        Ok((function, next)) => read_rest(alloc, bytes, &lines, function, next),
-        Err(error) => Err(error),
-    }
+    let (function, next) = read_function_lines(alloc, bytes, &lines, 0)?;
+    read_rest(alloc, bytes, &lines, function, next)
 }
 
 // A direct function has one amount an input, each other one two.
@@ -160,14 +158,12 @@ fn read_rest(
 {
     let rails = rails_of(&function);
     let inputs = function.variables();
-    match read_job_tail(alloc, bytes, lines, from, inputs, rails) {
-        Ok((amounts, segments)) => Ok(Job {
-            function,
-            amounts,
-            segments,
-        }),
-        Err(error) => Err(error),
-    }
+    let (amounts, segments) = read_job_tail(alloc, bytes, lines, from, inputs, rails)?;
+    Ok(Job {
+        function,
+        amounts,
+        segments,
+    })
 }
 
 /// The run job of a text: a network part, then `amount` lines with strictly ascending species, and then `segment` lines. A species without a
@@ -191,10 +187,8 @@ fn read_run_text(alloc: Global, bytes: &[u8]) -> Result<RunJob, JobError>
     ensures state { IfOk result (λ j. IsState j.network j.state) }
 {
     let lines = token_lines(alloc, bytes)?;
-    match read_network_lines(alloc, bytes, &lines) {
-        Ok((network, next)) => read_run_rest(alloc, bytes, &lines, network, next),
-        Err(error) => Err(error),
-    }
+    let (network, next) = read_network_lines(alloc, bytes, &lines)?;
+    read_run_rest(alloc, bytes, &lines, network, next)
 }
 
 // The run job of this network and the lines after it.
@@ -212,14 +206,12 @@ fn read_run_rest(
     ensures state { IfOk result (λ j. IsState network j.state) }
 {
     let species = network.species();
-    match read_run_tail(alloc, bytes, lines, from, species) {
-        Ok((state, segments)) => Ok(RunJob {
-            network,
-            state,
-            segments,
-        }),
-        Err(error) => Err(error),
-    }
+    let (state, segments) = read_run_tail(alloc, bytes, lines, from, species)?;
+    Ok(RunJob {
+        network,
+        state,
+        segments,
+    })
 }
 
 // The state of so many species and the segments, from the line with the index `from` to the end.
