@@ -1,5 +1,5 @@
 -- Made amounts of inputs, copies and outputs, and what a network settles to by them.
-use Rattle.std.proofs.Common.{◌≡◌, ℕ, suc, ◌+◌, ◌<◌, ◌≤◌, List, [], ◌∷◌, length, get_or, refl, sym, ◌∙◌, ap, ap₂, ⊎_elim, arith}
+use Rattle.std.proofs.Common.{◌≡◌, ℕ, suc, ◌+◌, ◌<◌, ◌≤◌, List, length, get_or, sym, ◌∙◌, ap, ap₂, ⊎_elim, arith}
 use Rattle.crn_fraction.proofs.Ring.{+ℚ-zero, zero-+ℚ}
 use Rattle.crn_fraction.specs.Rational.{ℚ, 0ℚ, ◌+ℚ◌, ◌-ℚ◌}
 use Rattle.crn_gates.proofs.FanLaws.{fans_low, fans_make}
@@ -7,11 +7,11 @@ use Rattle.crn_gates.specs.Building.{IsFanned}
 use Rattle.crn_gates.specs.FanOut.{fanned}
 use Rattle.crn_net.proofs.InRun.{made_in_run}
 use Rattle.crn_net.proofs.Settling.{computes}
-use Rattle.crn_net.proofs.Start.{amount-start, amount-start-past, pick_no, start_not_negative}
+use Rattle.crn_net.proofs.Start.{amount-start, amount-start-past, start_not_negative}
 use Rattle.crn_net.proofs.StartLists.{given_nothing}
 use Rattle.crn_net.proofs.Sums.{sum_none}
 use Rattle.crn_net.proofs.Unique.{none_of}
-use Rattle.crn_net.specs.Network.{Network, Reaction, amount, given_to, input_species, or_context, start, completion, completed, value_at, IsApart, IsNetwork, IsFeedForward, AreNotNegative, StablyComputes}
+use Rattle.crn_net.specs.Network.{Network, Reaction, amount, input_species, or_context, start, completion, completed, value_at, IsApart, IsNetwork, IsFeedForward, AreNotNegative, StablyComputes}
 use Rattle.crn_net.specs.declared.Flow.{Flow}
 use Rattle.crn_net.specs.declared.Ends.{Ends}
 use Rattle.crn_net.specs.declared.Ends.TheVariants.{Pair, One}
