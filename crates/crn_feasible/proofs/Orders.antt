@@ -5,7 +5,7 @@ use Rattle.std.proofs.lemmas.Int.{ints, clamps}
 use Rattle.crn_fraction.specs.Rational.{ℚ, whole, ◌+ℚ◌, ◌-ℚ◌, ◌*ℚ◌, ◌/ℚ◌, ◌≤ℚ◌, ◌<ℚ◌, min_ℚ, max_ℚ}
 use Rattle.crn_fraction.proofs.Ratios.{by_common_2, by_common_3, over-whole}
 use Rattle.crn_fraction.proofs.Order.{linear, ≤ℚ_refl, ≤ℚ_or_<ℚ, ≤ℚ_of_<ℚ, over-<ℚ}
-use Rattle.crn_fraction.proofs.Linear.{≤ℚ_trans, not_<ℚ, ≤ℚ-<ℚ_trans, <ℚ-≤ℚ_trans}
+use Rattle.crn_fraction.proofs.Linear.{max_ℚ-above_left, max_ℚ-above_right, ≤ℚ_trans, not_<ℚ, ≤ℚ-<ℚ_trans, <ℚ-≤ℚ_trans}
 use Rattle.crn_fraction.proofs.Products.{*ℚ-≤ℚ, *ℚ-<ℚ, ≤ℚ_of_*ℚ, *ℚ-/ℚ}
 use Rattle.crn_fraction.proofs.Ring.{ring_ℚ, q-writes}
 use Rattle.crn_linear.specs.Rows.{IsBelow}
@@ -114,9 +114,6 @@ pub above_beyond : (s : Bool) (a u : ℚ) → u ≤ℚ a → IsBelow s (u -ℚ w
 above_beyond s a u h = of_strict s (u -ℚ whole (pos 1)) a (beyond_down a u h)
 
 -- ---- the greatest and the least
-max_up : (a b : ℚ) → (a ≤ℚ max_ℚ a b) × (b ≤ℚ max_ℚ a b)
-max_up = by_common_2 (λ a b. (a ≤ℚ max_ℚ a b) × (b ≤ℚ max_ℚ a b)) (λ d p x y. simp linear (omega (arith, ints, clamps)))
-
 max_lt : (a b c : ℚ) → a <ℚ c → b <ℚ c → max_ℚ a b <ℚ c
 max_lt = by_common_3 (λ a b c. a <ℚ c → b <ℚ c → max_ℚ a b <ℚ c) (λ d p x y z. simp linear (omega (arith, ints, clamps)))
 
@@ -159,12 +156,12 @@ greatest-below s c l (q ∷ ls) h k = greatest-below s c (max_ℚ l q) ls (max-I
 
 pub greatest-first : (l : ℚ) (ls : List ℚ) → l ≤ℚ greatest l ls
 greatest-first l [] = ≤ℚ_refl l
-greatest-first l (q ∷ ls) = ≤ℚ_trans l (max_ℚ l q) (greatest (max_ℚ l q) ls) (max_up l q).0 (greatest-first (max_ℚ l q) ls)
+greatest-first l (q ∷ ls) = ≤ℚ_trans l (max_ℚ l q) (greatest (max_ℚ l q) ls) (max_ℚ-above_left l q) (greatest-first (max_ℚ l q) ls)
 
 pub greatest-each : (l : ℚ) (ls : List ℚ) → Each (λ q. q ≤ℚ greatest l ls) ls
 greatest-each l [] = tt
 greatest-each l (q ∷ ls) =
-    (≤ℚ_trans q (max_ℚ l q) (greatest (max_ℚ l q) ls) (max_up l q).1 (greatest-first (max_ℚ l q) ls), greatest-each (max_ℚ l q) ls)
+    (≤ℚ_trans q (max_ℚ l q) (greatest (max_ℚ l q) ls) (max_ℚ-above_right l q) (greatest-first (max_ℚ l q) ls), greatest-each (max_ℚ l q) ls)
 
 pub least-first : (u : ℚ) (us : List ℚ) → least u us ≤ℚ u
 least-first u [] = ≤ℚ_refl u

@@ -20,7 +20,7 @@ use Rattle.crn_completer.specs.Refusal.{completion_refusal}
 use Rattle.crn_completer.proofs.Fitting.{completion_fits}
 use Rattle.crn_job.specs.Grammar.{PlainJob}
 use Rattle.crn_program.specs.Report.{OutputFits, run_report, refusal}
-use Rattle.crn_program.specs.Finding.{Outcome, OtherKind, RefusedSegment, Unfinished, NoValue, Compiled, Completed, Ran, Unmade, Bulked, Finding, WrongLine, PastLimit, Comes, status_of, text_of, status_of_step, step_words, text_of_outcome}
+use Rattle.crn_program.specs.Finding.{Outcome, OtherKind, RefusedSegment, NoValue, Compiled, Completed, Ran, Unmade, Bulked, Finding, WrongLine, PastLimit, Comes, status_of, text_of, status_of_step, step_words, text_of_outcome}
 use Rattle.crn_program.specs.Runs.{IsRefused, IsCompleted, IsRefusedCompletion, IsOutcomeOfSegments, IsOutcomeOfRun}
 use Rattle.crn_program.specs.Answer.{Says, IsCompiled, IsOutcomeOfFunction, IsOutcomeOfJob, IsOutcomeOfHalves, IsOutcomeOfBulk, IsFoundInText, text_limit}
 use Rattle.crn_program.specs.Bulk.{halves, halves_refusal}

@@ -1,14 +1,13 @@
 -- The segments of `bulk`: half of the greatest flux is legal, and is refused only where a number does not fit.
-use Rattle.std.proofs.Common.{◌≡◌, ℕ, zero, suc, ◌+◌, ◌<◌, ◌≤◌, Bool, true, false, not, ◌&&◌, ◌||◌, ◌==◌, ◌%◌, ◌-◌, List, [], ◌∷◌, ◌++◌, length, Option, Some, None, is_some, refl, sym, ap, ap₂, ◌∙◌, subst, ⊎_elim, arith, lit<}
+use Rattle.std.proofs.Common.{◌≡◌, ℕ, zero, suc, ◌+◌, ◌<◌, ◌≤◌, Bool, true, false, not, ◌&&◌, ◌||◌, ◌==◌, ◌%◌, ◌-◌, List, [], ◌∷◌, length, Option, Some, None, is_some, refl, sym, ap, ap₂, ◌∙◌, subst, arith, lit<}
 use Rattle.std.proofs.lemmas.List.{length-append}
 use Rattle.std.specs.Prelude.{pos, if◌then◌else◌, OnErr, Result, Ok, Err}
 use Rattle.std.specs.Option.{option_or, option_map}
-use Rattle.crn_fraction.specs.Rational.{ℚ, 0ℚ, ◌+ℚ◌, ◌*ℚ◌, ◌/ℚ◌, ◌≤ℚ◌, ◌<ℚ◌, whole}
+use Rattle.crn_fraction.specs.Rational.{ℚ, 0ℚ, ◌*ℚ◌, ◌/ℚ◌, ◌≤ℚ◌, ◌<ℚ◌, whole}
 use Rattle.crn_fraction.proofs.Order.{≤ℚ_of_<ℚ}
 use Rattle.crn_fraction.proofs.Linear.{≤ℚ_trans}
 use Rattle.crn_fraction.proofs.Products.{/ℚ-positive, /ℚ-whole_below, whole-*ℚ-≤ℚ, whole_positive}
-use Rattle.crn_net.specs.Network.{Network, IsNetwork, IsState, IsLegal, amount, numbered, taken, after, after_all, alone, greatest_flux}
-use Rattle.crn_net.specs.declared.Flow.{Flow}
+use Rattle.crn_net.specs.Network.{Network, IsNetwork, IsState, IsLegal, amount, numbered, taken, after_all, alone, greatest_flux}
 use Rattle.crn_net.proofs.Completion.{legal_alone}
 use Rattle.crn_net.proofs.Taken.{greatest_flux_fits}
 use Rattle.crn_segments.specs.Flows.{IsSegment}

@@ -13,7 +13,6 @@ use Rattle.crn_segments.specs.Step.{step_refusal}
 use Rattle.crn_segments.specs.Steps.{StepsGo}
 use Rattle.crn_segments.specs.declared.StepError.{StepError}
 use Rattle.crn_completer.specs.Refusal.{completion_refusal}
-use Rattle.crn_completer.specs.declared.CompletionTooBig.{CompletionTooBig}
 use Rattle.crn_program.specs.Report.{OutputFits}
 use Rattle.crn_program.specs.Finding.{Outcome, RefusedSegment, Unfinished, NoValue, Completed, Ran, Unmade, Bulked}
 use Rattle.crn_program.specs.Runs.{IsRefused, IsRefusedCompletion, IsOutcomeOfSegments, IsOutcomeOfRun}

@@ -1,8 +1,7 @@
 -- Given segments, one after another.
 use Rattle.std.proofs.Common.{◌≡◌, ℕ, zero, suc, ◌+◌, ◌<◌, ◌≤◌, List, [], ◌∷◌, ◌++◌, length, take, drop, get_or, Some, None, refl, sym, ap, ◌∙◌, subst, arith}
 use Rattle.std.proofs.lemmas.List.{take_more, take_all, length-take-le}
-use Rattle.crn_fraction.specs.Rational.{ℚ}
-use Rattle.crn_net.specs.Network.{Network, after}
+use Rattle.crn_net.specs.Network.{after}
 use Rattle.crn_net.specs.declared.Flow.{Flow}
 use Rattle.crn_segments.specs.Flows.{IsSegment}
 use Rattle.crn_segments.specs.Progress.{Progress}

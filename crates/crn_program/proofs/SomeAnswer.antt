@@ -1,5 +1,5 @@
 -- Words and bytes have an answer.
-use Rattle.std.proofs.Common.{◌≡◌, ℕ, zero, suc, ◌+◌, ◌<◌, ◌≤◌, Bool, true, false, not, ◌||◌, ◌⊎◌, inl, inr, ⊎_elim, List, [], ◌∷◌, ◌++◌, length, Option, Some, None, is_some, refl, sym, ap, ◌∙◌, subst, arith}
+use Rattle.std.proofs.Common.{◌≡◌, ℕ, zero, suc, ◌+◌, ◌≤◌, Bool, true, false, ◌||◌, ◌⊎◌, inl, inr, ⊎_elim, List, [], ◌∷◌, ◌++◌, length, Option, Some, None, is_some, refl, sym, ap, ◌∙◌, subst, arith}
 use Rattle.std.specs.Prelude.{if◌then◌else◌, codes}
 use Rattle.std.specs.Option.{option_map}
 use Rattle.std.specs.Str.{bytes_eq}
@@ -11,11 +11,10 @@ use Rattle.crn_token.specs.declared.Counted.{Counted}
 use Rattle.crn_token.specs.Plain.{plain_lines, line_number, end_of}
 use Rattle.crn_grammar.specs.Table as grammar
 use Rattle.crn_grammar.proofs.TableLaws.{answer_is}
-use Rattle.crn_formula.specs.Functions.{Kind, ByFormula, ByPieces, ByLeast, IsFitting, IsGivenByPieces}
+use Rattle.crn_formula.specs.Functions.{Kind, ByFormula, ByPieces, ByLeast, IsGivenByPieces}
 use Rattle.crn_function_text.specs.Grammar.{PlainFunction, function_table}
 use Rattle.crn_function_text.proofs.GrammarLaws.{function_can_end}
-use Rattle.crn_function_text.proofs.Kept.{text_fits}
-use Rattle.crn_net.specs.Network.{Network, IsNetwork, IsState, IsFeedForward, AreAmounts, StablyComputes, Run, amount, start, after, after_all, completed, alone, numbered}
+use Rattle.crn_net.specs.Network.{Network, IsNetwork, IsState, IsFeedForward, AreAmounts, StablyComputes, Run, amount, start, after, after_all, completed, alone}
 use Rattle.crn_net.specs.declared.Ends.{Ends}
 use Rattle.crn_net.specs.declared.Ends.TheVariants.{Pair, One}
 use Rattle.crn_net.specs.declared.Flow.{Flow}

@@ -1,11 +1,10 @@
 -- The amounts that inputs are given one after another, and the start that they make.
-use Rattle.std.proofs.Common.{◌≡◌, ◌≢◌, ◌==◌, ℕ, zero, suc, ◌+◌, ◌-◌, ◌<◌, ◌≤◌, if◌then◌else◌, List, [], ◌∷◌, ◌++◌, length, take, drop, get_or, replicate, refl, sym, ap, ◌∙◌, subst, inl, inr, ◌⊎◌, ⊎_elim, arith, length-append, set}
+use Rattle.std.proofs.Common.{◌≡◌, ◌≢◌, ℕ, zero, suc, ◌+◌, ◌-◌, ◌<◌, ◌≤◌, List, [], ◌∷◌, ◌++◌, length, take, drop, get_or, replicate, refl, sym, ap, ◌∙◌, subst, ◌⊎◌, ⊎_elim, arith, length-append, set}
 use Rattle.std.specs.Prelude.{None, Some, pos}
-use Rattle.std.proofs.lemmas.List.{take_more, take_all, length-set, length-replicate, ext_get_or, drop-drop, length-drop}
-use Rattle.std.proofs.lemmas.List.FromFn.{length-map-range_with_len}
+use Rattle.std.proofs.lemmas.List.{take_all, length-set, length-replicate, drop-drop, length-drop}
 use Rattle.crn_fraction.specs.Rational.{ℚ, 0ℚ, whole}
 use Rattle.crn_net.specs.Network.{Network, IsNetwork, IsEnds, IsApart, IsContext, AreAmounts, AreNotNegative, amount, given_to, or_context, input_species, start}
-use Rattle.crn_net.specs.Inputs.{species_of, AreNew}
+use Rattle.crn_net.specs.Inputs.{species_of}
 use Rattle.crn_net.specs.declared.Rails.{Rails}
 use Rattle.crn_net.specs.declared.Rails.TheVariants.{Dual, Direct}
 use Rattle.crn_net.specs.declared.Ends.{Ends}

@@ -6,16 +6,14 @@ use Rattle.crn_token.specs.Plain.{plain_lines, line_number, end_of}
 use Rattle.crn_grammar.specs.Table as grammar
 use Rattle.crn_formula.specs.Functions.{IsGivenByPieces}
 use Rattle.crn_function_text.specs.Grammar.{PlainFunction, function_table}
-use Rattle.crn_net.specs.Network.{Network, start, encoded, after_all, completed}
+use Rattle.crn_net.specs.Network.{Network, start, encoded, after_all}
 use Rattle.crn_net_text.specs.NetworkText.{network_text}
 use Rattle.crn_net_text.specs.Grammar.{network_table}
 use Rattle.crn_job.specs.Grammar.{PlainJob, job_table}
 use Rattle.crn_job.specs.RunGrammar.{PlainRunJob, run_table}
 use Rattle.crn_bulk.specs.Generator.{bulk_job, bulk_number}
-use Rattle.crn_completer.specs.Refusal.{completion_refusal}
 use Rattle.crn_program.specs.Bulk.{halves, halves_refusal}
-use Rattle.crn_program.specs.Report.{OutputFits}
-use Rattle.crn_program.specs.Finding.{Outcome, OtherKind, Compiled, Unfinished, NoValue, Unmade, Bulked, Finding, NoCommand, LongText, WrongLine, PastLimit, Comes, status_of, text_of}
+use Rattle.crn_program.specs.Finding.{Outcome, OtherKind, Compiled, Unmade, Bulked, Finding, NoCommand, LongText, WrongLine, PastLimit, Comes, status_of, text_of}
 use Rattle.crn_program.specs.Runs.{IsCompleted, IsRefusedCompletion, IsOutcomeOfSegments, IsOutcomeOfRun}
 use Rattle.crn_program.specs.Value.{IsValue, IsNetworkOf}
 use Rattle.crn_compile.specs.Networks.{ComputesFunction}

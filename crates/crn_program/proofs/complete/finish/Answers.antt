@@ -1,4 +1,4 @@
-use Rattle.crn_program.proofs.Completing.{no_value, finished}
+use Rattle.crn_program.proofs.Completing.{finished}
 use Rattle.crn_program.proofs.complete.finish.Goals as goal
 
 pub returns-in-Ok-clause-ends : goal.returns-in-Ok-clause-ends
