@@ -59,7 +59,7 @@ of_refused net c _ refused = absurd refused
 of_segments : (net : Network) (value : ℚ) (a : List ℚ) (us : List (List Flow)) (o : Outcome) → IsOutcomeOfSegments net value a us o → IsOfRun (status_of_outcome o)
 of_segments net value a us (RefusedSegment t e) found = step_of_run e
 of_segments net value a us (Completed n c) found = inl refl
-of_segments net value a us o (c, leads, refused) = of_refused net c o refused
+of_segments net value a us o found = of_refused net found.0 o found.2
 
 of_job : (job : PlainJob) (o : Outcome) → ¬ IsGivenByPieces job.function.kind → IsOutcomeOfJob job o → IsOfRun (status_of_outcome o)
 of_job job OtherKind other found = absurd (other found)

@@ -92,7 +92,7 @@ tells_refused net value a us p t e s text net_is state_is refused status_is text
 -- what comes of the segments in the network of a job's function comes of the job
 pub outcome_of_job : (job : PlainJob) (net : Network) (value : ℚ) (o : Outcome) → IsNetworkOf job.function net → IsValue job.function (encoded net.rails job.amounts) value
     → IsOutcomeOfSegments net value (start net job.amounts) job.segments o → IsOutcomeOfJob job o
-outcome_of_job job net value OtherKind net_is value_is found = absurd found
+outcome_of_job job net value OtherKind net_is value_is found = absurd found.2
 outcome_of_job job net value o net_is value_is found = (net, value, net_is, value_is, found)
 
 pub tells_job : (job : PlainJob) (net : Network) (value : ℚ) (s : Status) (text : List ℕ) → IsNetworkOf job.function net → IsValue job.function (encoded net.rails job.amounts) value

@@ -132,7 +132,7 @@ unfolding job_outcome
 job_outcome_is net value a us (RefusedSegment t e) found = stopped _ net a us t e found
 job_outcome_is net value a us (Completed n c) found =
     reached _ net a us c found.1.leads ∙ finished_is (Completed net c) net c found.1.finishes found.1.output_fits ∙ ap (λ m. Completed m c) (sym found.0)
-job_outcome_is net value a us o (c, goes, refused) = refused_after net a us c o goes refused
+job_outcome_is net value a us o found = refused_after net a us found.0 o found.1 found.2
 
 pub run_outcome_is : (net : Network) (a : List ℚ) (us : List (List Flow)) (o : Outcome) → IsOutcomeOfRun net a us o → run_outcome net a us ≡ o
 unfolding run_outcome
@@ -158,4 +158,4 @@ halves_outcome_is net value a z n (Bulked m on count c) (size, same, fits, count
     ∙ ap₂ (λ k d. finished_outcome (Bulked n net k d) net d) (sym count_is) ends
     ∙ finished_is (Bulked n net count c) net c is.finishes is.output_fits
     ∙ ap₂ (λ k on. Bulked k on count c) (sym size) (sym same)
-halves_outcome_is net value a z n o (fits, refused) = fitting_halves net a z n fits ∙ refused_is _ net (after_all net a (halves net z a)) o refused
+halves_outcome_is net value a z n o found = fitting_halves net a z n found.0 ∙ refused_is _ net (after_all net a (halves net z a)) o found.1

@@ -72,7 +72,7 @@ leads net a [] = inl (a, refl)
 leads net a (u ∷ us) = go (step_refusal net a u) refl (leads net (after net a u) us)
   where
     go : (o : Option StepError) → step_refusal net a u ≡ o → Leads net (after net a u) us → Leads net a (u ∷ us)
-    go None none (inl (c, goes)) = inl (c, none, goes)
+    go None none (inl (c, goes)) = inl (c, (none, goes))
     go None none (inr (t, e, r)) = inr (
       suc t,
       e,
@@ -107,7 +107,7 @@ comes_at : (net : Network) (c : List ℚ) → (o : Outcome) × IsOutcomeOfEnd ne
 comes_at net c = go (fits_or_not net.output c)
   where
     go : OutputFits net.output c ⊎ (OutputFits net.output c → ⊥) → (o : Outcome) × IsOutcomeOfEnd net c o
-    go (inl fits) = (Ran net c, refl, refl, fits)
+    go (inl fits) = (Ran net c, (refl, refl, fits))
     go (inr unfit) = (NoValue, unfit)
 
 -- ---- what comes of a job, and of a run job
@@ -132,7 +132,8 @@ comes_of_job job fit = go (kinds job.function.variables job.function.kind)
     go : IsGivenByPieces job.function.kind ⊎ ((net : Network) × IsNetworkOf job.function net) → (o : Outcome) × IsOutcomeOfJob job o
     go (inl pieces) = (OtherKind, pieces)
     go (inr (net, is)) =
-        let (k, kind) = (job.function.variables, job.function.kind) in
+        let k = job.function.variables in
+        let kind = job.function.kind in
         let amounts = job_amounts net job.function job.amounts is fit.long fit.not_negative in
         let (value, value_is, stably) = computes_value net job.function job.amounts (computes k kind net fit.function is) amounts in
         let (o, found) = comes_of_segments net value job.amounts job.segments (is_valid k kind net fit.function is).network (feeds_forward k kind net fit.function is) amounts stably fit.segments in
@@ -209,7 +210,7 @@ comes_of_bulk n some few =
     let amounts = job_amounts net f job.amounts is (bulk_amounts_long n) (bulk_amounts_not_negative n) in
     let (value, value_is, stably) = computes_value net f job.amounts (computes f.variables f.kind net fit is) amounts in
     let (o, found) = go net value job.amounts (is_valid f.variables f.kind net fit is).network (feeds_forward f.variables f.kind net fit is) amounts stably (halves_refusal net (bulk_number n) (start net job.amounts)) refl in
-    (o, net, value, is, value_is, found)
+    (o, (net, value, is, value_is, found))
   where
     go : (net : Network) (value : ℚ) (xs : List ℚ) → IsNetwork net → IsFeedForward net → AreAmounts net xs → StablyComputes net xs value
         → (r : Option ℕ) → halves_refusal net (bulk_number n) (start net xs) ≡ r → (o : Outcome) × IsOutcomeOfHalves net value (start net xs) (bulk_number n) n o
@@ -229,9 +230,9 @@ comes_of_text : {V : Type 0} (IsRight : List ℕ → grammar.Answer V (Counted �
 comes_of_text {V} IsRight Found bytes a right comes = ⊎_elim (λ short. within short a right) (λ long. (LongText, long)) (grind arith)
   where
     within : length bytes ≤ text_limit → (a : grammar.Answer V (Counted × ℕ)) → IsRight bytes a → (f : Finding) × IsFoundInText IsRight Found bytes f
-    within short (grammar.Read v) right = let (o, found) = comes v right in (Comes o, short, v, right, found)
-    within short (grammar.Malformed n) right = (WrongLine n, short, right)
-    within short (grammar.Limited (what, count)) right = (PastLimit what count, short, right)
+    within short (grammar.Read v) right = let (o, found) = comes v right in (Comes o, (short, v, right, found))
+    within short (grammar.Malformed n) right = (WrongLine n, (short, right))
+    within short (grammar.Limited (what, count)) right = (PastLimit what count, (short, right))
 
 comes_of_function : (bytes : List ℕ) (f : PlainFunction) → IsFunctionAnswer bytes (grammar.Read f) → (o : Outcome) × IsOutcomeOfFunction f o
 comes_of_function bytes f right = go (kinds f.variables f.kind)
@@ -301,7 +302,7 @@ row_of_two v w = go (same_or_not v (codes "bulk")) (size_or_not w 1000)
     two x is = cc is
 
     go : (v ≡ codes "bulk") ⊎ (v ≡ codes "bulk" → ⊥) → ((n : ℕ) × (w ≡ decimal n) × (1 ≤ n) × (n ≤ 1000)) ⊎ ((n : ℕ) → w ≡ decimal n → 1 ≤ n → n ≤ 1000 → ⊥) → RowOrNot (v ∷ w ∷ [])
-    go (inl word) (inl (n, is, some, few)) = inl (Bulk n, ap (λ x. x ∷ w ∷ []) word ∙ ap (λ y. codes "bulk" ∷ y ∷ []) is, some, few)
+    go (inl word) (inl (n, is, some, few)) = inl (Bulk n, (ap (λ x. x ∷ w ∷ []) word ∙ ap (λ y. codes "bulk" ∷ y ∷ []) is, some, few))
     go (inl word) (inr other) = inr none
       where
         none : IsNoRow (v ∷ w ∷ [])
@@ -334,7 +335,7 @@ something_found words bytes = go (row_or_not words)
   where
     go : RowOrNot words → (f : Finding) × IsFound words bytes f
     go (inl (OfText command, row)) = let (f, found) = found_by_text command bytes in (f, row_found words command bytes f row found)
-    go (inl (Bulk n, row)) = let (o, found) = comes_of_bulk n row.1 row.2 in (Comes o, Bulk n, row, found)
+    go (inl (Bulk n, row)) = let (o, found) = comes_of_bulk n row.1 row.2 in (Comes o, (Bulk n, row, found))
     go (inr none) = (NoCommand, none)
 
 pub some_answer : (words : List (List ℕ)) (bytes : List ℕ) → (s : Status) × (text : List ℕ) × Answers words bytes s text
