@@ -1,5 +1,5 @@
 -- The counts of a direct layout.
-use Rattle.std.proofs.Common.{◌≡◌, ℕ, suc, ◌<◌, ◌^◌, Bool, true, false, cond, not, List, [], ◌∷◌, length, drop, map}
+use Rattle.std.proofs.Common.{ℕ, ◌<◌, ◌^◌, Bool, true, false, cond, not, List, [], ◌∷◌, length, drop}
 use Rattle.std.specs.List.{zip}
 use Rattle.crn_fraction.specs.Rational.{ℚ, is_zero_ℚ}
 use Rattle.crn_linear.specs.Fracs.{AreFracs, AreFormFracs}
@@ -9,7 +9,7 @@ use Rattle.crn_gates.specs.Terms.{nonzero}
 use Rattle.crn_gates.specs.Singles.{rails_of_singles, factors_of_singles, ascending}
 use Rattle.crn_gates.specs.FanOut.{fanned}
 use Rattle.crn_gates.proofs.Counts.{stamped_counts, fanned_counts, factor_counts, AreCounted, leaf_one_counts, min_one_counts}
-use Rattle.crn_direct.specs.Layout.{uses_of, copies_for, Laid, leaf_on, minimum_with, least_on, laid_out, direct_layout}
+use Rattle.crn_direct.specs.Layout.{uses_of, copies_for, Laid, leaf_on, minimum_with, least_on, direct_layout}
 
 nonzero_fits : (form : List ℚ) → AreFracs form → AreFracs (nonzero form)
 nonzero_fits [] fits = tt

@@ -1,11 +1,10 @@
 -- The counts of a layout.
-use Rattle.std.proofs.Common.{◌≡◌, ℕ, suc, ◌+◌, ◌<◌, ◌^◌, Bool, true, false, if◌then◌else◌, List, [], ◌∷◌}
+use Rattle.std.proofs.Common.{ℕ, suc, ◌+◌, ◌<◌, ◌^◌, Bool, true, false, if◌then◌else◌, List, [], ◌∷◌}
 use Rattle.std.specs.List.{range_with_len}
 use Rattle.crn_fraction.specs.Rational.{ℚ, is_zero_ℚ}
-use Rattle.crn_fraction.specs.Frac.{IsFrac}
 use Rattle.crn_net.specs.Reactions.{EachCountOn}
 use Rattle.crn_net.specs.declared.Rails.TheVariants.{Dual}
-use Rattle.crn_gates.specs.Gates.{Built, Operand, factor_of, width_of, leaf_table, scale_table, add_table, sub_table, min_table, max_table}
+use Rattle.crn_gates.specs.Gates.{Built, factor_of, width_of, leaf_table, scale_table, add_table, sub_table, min_table, max_table}
 use Rattle.crn_gates.specs.Terms.{Term, terms_from, terms_of}
 use Rattle.crn_gates.specs.Drafts.{width_before}
 use Rattle.crn_gates.specs.FanOut.{fanned}
@@ -16,7 +15,7 @@ use Rattle.crn_formula.specs.Formulas.{Formula, Lin, Add, Sub, Scale, Min, Max}
 use Rattle.crn_dual.specs.Columns.{has_context}
 use Rattle.crn_linear.specs.Fracs.{AreFracs}
 use Rattle.crn_formula.specs.Numbers.{HasFracs}
-use Rattle.crn_dual.specs.Layout.{use_of, operand_for, operands_of, rails_of, copy_count, Laid, nodes, layout}
+use Rattle.crn_dual.specs.Layout.{use_of, operand_for, operands_of, rails_of, copy_count, nodes, layout}
 
 module _ (P : ℕ → Type 0) (small : (n : ℕ) → n < 2 ^ 63 → P n) where
   abbrev AreCountedTerms : List Term → Type 0

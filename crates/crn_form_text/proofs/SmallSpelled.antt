@@ -1,15 +1,15 @@
 -- The numbers that small tokens spell are fractions that fit.
-use Rattle.std.proofs.Common.{◌≡◌, ℕ, zero, suc, negsuc, ◌+◌, ◌-◌, ◌<◌, ◌≤◌, ◌==◌, ◌^◌, Bool, true, false, cond, ℤ, pos, neg_ℤ, ◌⊎◌, ⊎_elim, List, [], ◌∷◌, ◌++◌, length, take, replicate, refl, sym, ap, ap₂, ◌∙◌, subst, arith, lit<, length-take-le, take_all, get_or}
+use Rattle.std.proofs.Common.{◌≡◌, ℕ, zero, suc, ◌+◌, ◌-◌, ◌<◌, ◌≤◌, ◌==◌, ◌^◌, Bool, true, false, cond, ℤ, pos, ◌⊎◌, ⊎_elim, List, [], ◌∷◌, ◌++◌, length, take, replicate, refl, sym, ap, ◌∙◌, subst, arith, lit<}
 use Rattle.std.specs.Prelude.{unsigned_abs, codes}
-use Rattle.crn_token.specs.declared.Sign.TheVariants.{LeftParen, RightParen, Comma}
-use Rattle.crn_token.specs.Plain.{Plain, PlainWord, PlainSign, PlainNumber}
+use Rattle.crn_token.specs.declared.Sign.TheVariants.{RightParen, Comma}
+use Rattle.crn_token.specs.Plain.{Plain, PlainSign}
 use Rattle.crn_token.specs.Small.{AreSmall}
 use Rattle.crn_token.proofs.SmallNumbers.{small_front, small_back}
 use Rattle.crn_fraction.specs.Rational.{ℚ, 0ℚ, whole}
 use Rattle.crn_fraction.specs.Frac.{IsFrac}
 use Rattle.crn_linear.specs.Forms.{entry_of}
 use Rattle.crn_formula.specs.Formulas.{Formula, Lin, Add, Sub, Scale, Min, Max, formula_has_constant}
-use Rattle.crn_form_text.specs.Grammar.{Numeral, Whole, Over, numeral_tokens, signed, fraction, minus_before, SpellsSigned, Term, Variable, Multiple, Constant, Signed, name_tokens, term_tokens, sign_before, more_tokens, form_tokens, column_of, coefficient_of, coefficient, entry_in, AreTermsOf, SpellsForm, SpellsPlain, SpellsFormula, call, pair, narrow}
+use Rattle.crn_form_text.specs.Grammar.{Numeral, Whole, Over, numeral_tokens, signed, fraction, minus_before, SpellsSigned, Term, Variable, Multiple, Constant, Signed, name_tokens, term_tokens, sign_before, more_tokens, form_tokens, column_of, coefficient_of, entry_in, AreTermsOf, SpellsForm, SpellsPlain, SpellsFormula, call, pair, narrow}
 use Rattle.crn_form_text.specs.Built.{fitted}
 use Rattle.crn_form_text.specs.Printing.{AreFracs, AreFracsOf, FitsText}
 use Rattle.crn_form_text.proofs.Fractions.{IsFrac-over, over_one}

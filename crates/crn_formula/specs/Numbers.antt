@@ -1,5 +1,5 @@
 -- The numbers of functions: the entries of their forms, and the factors of multiples in a formula.
-use Rattle.std.specs.Prelude.{All, List, [], ◌∷◌}
+use Rattle.std.specs.Prelude.{All}
 use Rattle.crn_fraction.specs.Frac.{IsFrac}
 use Rattle.crn_linear.specs.Fracs.{AreFracs, AreFormFracs}
 use Rattle.crn_formula.specs.Formulas.{Formula, Lin, Add, Sub, Scale, Min, Max}

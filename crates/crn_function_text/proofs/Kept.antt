@@ -1,20 +1,18 @@
 -- What holds at each place within the limits.
-use Rattle.std.proofs.Common.{◌≡◌, ℕ, suc, ◌+◌, ◌-◌, ◌≤◌, Bool, true, false, cond, List, [], ◌∷◌, ◌++◌, length, take, drop, Option, Some, None, refl, sym, ◌∙◌, ap, subst, arith, length-append}
-use Rattle.std.proofs.lemmas.Bool.{ltb-false}
+use Rattle.std.proofs.Common.{◌≡◌, ℕ, suc, ◌+◌, ◌-◌, ◌≤◌, Bool, true, false, cond, List, [], ◌∷◌, ◌++◌, length, take, drop, Option, Some, None, refl, subst, arith, length-append}
 use Rattle.std.proofs.lemmas.List.Elements.{All-nil, All-push}
 use Rattle.std.proofs.Math.Seq.{get_or-append_seam}
 use Rattle.std.proofs.lemmas.List.{get_or_append_left}
 use Rattle.std.proofs.lemmas.List.Sums.{sum_by_push}
-use Rattle.std.specs.Prelude.{All, nat_lt, pos}
+use Rattle.std.specs.Prelude.{All, pos}
 use Rattle.std.specs.List.{sum_by}
-use Rattle.std.specs.Option.{option_map, option_map_or}
+use Rattle.std.specs.Option.{option_map}
 use Rattle.crn_fraction.specs.Rational.{ℚ, 0ℚ, ◌≤ℚ◌}
-use Rattle.crn_token.specs.declared.Counted.{Counted}
 use Rattle.crn_token.specs.declared.Counted.TheVariants as counted
 use Rattle.crn_token.specs.Plain.{Plain, PlainLine, PlainWord, PlainNumber}
 use Rattle.crn_grammar.specs.Table.{Read, IsText, PassesNone}
 use Rattle.crn_grammar.proofs.TableLaws.{kept_to_the_end}
-use Rattle.crn_grammar.specs.Limits.{above, or_else}
+use Rattle.crn_grammar.specs.Limits.{above}
 use Rattle.crn_grammar.specs.Reading.{judged}
 use Rattle.crn_grammar.proofs.LimitLaws.{not_passed, neither}
 use Rattle.crn_grammar.proofs.Turns.{judged_read}

@@ -1,5 +1,5 @@
 -- The numbers of a function that a text gives are fractions that fit.
-use Rattle.std.proofs.Common.{◌≡◌, ℕ, zero, suc, ◌+◌, ◌-◌, ◌≤◌, Bool, true, false, cond, List, [], ◌∷◌, ◌++◌, length, take, drop, map, Option, Some, None, refl, sym, ap, ◌∙◌, subst, arith}
+use Rattle.std.proofs.Common.{◌≡◌, ℕ, zero, suc, ◌+◌, ◌-◌, ◌≤◌, Bool, true, false, cond, List, [], ◌∷◌, ◌++◌, length, take, drop, map, Option, Some, None, refl, subst, arith}
 use Rattle.std.proofs.lemmas.List.Elements.{All-nil, All-cons, All-head, All-tail, All-push, All-map, All-weaker}
 use Rattle.std.specs.Prelude.{All, pos}
 use Rattle.std.specs.List.{list_any}
@@ -7,7 +7,7 @@ use Rattle.std.specs.Option.{option_map}
 use Rattle.crn_fraction.specs.Rational.{ℚ}
 use Rattle.crn_token.specs.Plain.{Plain, PlainLine, PlainWord, PlainNumber, plain_lines}
 use Rattle.crn_token.specs.Small.{AreSmall, AreSmallLines}
-use Rattle.crn_token.proofs.SmallNumbers.{small_take, small_drop, lines_small}
+use Rattle.crn_token.proofs.SmallNumbers.{small_take, lines_small}
 use Rattle.crn_grammar.specs.Table.{IsText, PassesNone}
 use Rattle.crn_grammar.proofs.TableLaws.{EachLine, kept_where}
 use Rattle.crn_formula.specs.Pieces.{Piece}

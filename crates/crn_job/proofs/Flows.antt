@@ -2,7 +2,7 @@
 use Rattle.std.proofs.Common.{◌≡◌, ℕ, zero, suc, ◌-◌, ◌<◌, ◌≤◌, ◌++◌, List, [], ◌∷◌, length, drop, map, Option, Some, None, refl, sym, ◌∙◌, ap, arith, append_assoc, append-nil, cond, true, false, Bool}
 use Rattle.std.proofs.lemmas.List.{drop-map, length-map}
 use Rattle.std.specs.Option.{option_map, option_and_then, option_map_or}
-use Rattle.crn_grammar.specs.Table.{Answer, Read, Limited}
+use Rattle.crn_grammar.specs.Table.{Read, Limited}
 use Rattle.crn_grammar.proofs.LimitLaws.{not_above, is_above}
 use Rattle.crn_token.specs.declared.Counted.{Counted}
 use Rattle.crn_token.specs.declared.Counted.TheVariants as counted

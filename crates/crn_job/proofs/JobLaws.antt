@@ -13,7 +13,7 @@ use Rattle.crn_grammar.proofs.TableLaws.{can_end}
 use Rattle.crn_fraction.specs.Rational.{ℚ}
 use Rattle.crn_form_text.specs.Grammar.{fraction, Whole}
 use Rattle.crn_function_text.specs.Words.{first_word}
-use Rattle.crn_function_text.specs.Grammar.{PlainFunction, Place, Start, function_table, goes_on, function_part, whole}
+use Rattle.crn_function_text.specs.Grammar.{PlainFunction, Place, Start, function_table, goes_on, function_part}
 use Rattle.crn_function_text.specs.Grammar as functions
 use Rattle.crn_function_text.proofs.GrammarLaws.{not_followed, function_can_end}
 use Rattle.crn_function_text.proofs.Steps.{never_other}

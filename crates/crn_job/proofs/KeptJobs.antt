@@ -1,5 +1,5 @@
 -- The jobs and run jobs of texts within the limits.
-use Rattle.std.proofs.Common.{◌≡◌, ℕ, zero, suc, ◌+◌, ◌*◌, List, length, Option, Some, None, refl, sym, ◌∙◌, ap, subst, arith}
+use Rattle.std.proofs.Common.{◌≡◌, ℕ, zero, suc, ◌*◌, List, length, Option, Some, None, refl, sym, ◌∙◌, ap, subst, arith}
 use Rattle.std.specs.Option.{option_map_or}
 use Rattle.crn_token.specs.Plain.{PlainLine}
 use Rattle.crn_grammar.specs.Table.{IsText, PassesNone, Read, Limited}
@@ -18,7 +18,7 @@ use Rattle.crn_token.proofs.Options.{some_alike}
 use Rattle.crn_segments.specs.Steps.{AreSegments}
 use Rattle.crn_job.specs.Words.{first_word}
 use Rattle.crn_job.specs.Grammar.{PlainJob, Tail, TailValue, job_table, job_tail, job_with, tail_next, tail_limit, tail_whole, value_at, rails_of, amounts_of, amount_count}
-use Rattle.crn_job.specs.RunGrammar.{PlainRunJob, RunTail, RunValue, run_table, run_tail, run_with, run_next, run_limit, run_whole, state_given}
+use Rattle.crn_job.specs.RunGrammar.{PlainRunJob, RunTail, RunValue, run_table, run_tail, run_with, run_next, run_limit, run_whole}
 use Rattle.crn_grammar.specs.Reading.{judged}
 use Rattle.crn_job.specs.Reading.{IsKept, IsRunKept}
 use Rattle.crn_job.specs.Fitting.{IsFittingJob, IsFittingRunJob}

@@ -2,12 +2,11 @@
 use Rattle.std.proofs.Common.{◌≡◌, ℕ, ◌<◌, cond, List, [], ◌∷◌, length, drop, map, Option, Some, None, refl, sym, ◌∙◌, ap, ap₂, subst, arith}
 use Rattle.std.specs.Option.{option_map, option_map_or, option_and_then}
 use Rattle.crn_fraction.specs.Rational.{ℚ, 0ℚ, ◌≤ℚ◌}
-use Rattle.crn_token.specs.declared.Counted.{Counted}
 use Rattle.crn_token.specs.declared.Counted.TheVariants as counted
 use Rattle.crn_token.specs.declared.Token.{Token}
 use Rattle.crn_token.specs.declared.Line.{Line}
 use Rattle.crn_token.specs.Plain.{Plain, plain_token, plain_line}
-use Rattle.crn_grammar.specs.Table.{Answer, Read, Malformed, Limited}
+use Rattle.crn_grammar.specs.Table.{Read, Limited}
 use Rattle.crn_token.specs.Words.{rest_of}
 use Rattle.crn_net.specs.declared.Flow.{Flow}
 use Rattle.crn_net_text.specs.Grammar.{species_at}

@@ -1,5 +1,5 @@
 -- The test of a segment, and the flows that are one.
-use Rattle.std.proofs.Common.{◌≡◌, ℕ, Bool, true, false, cond, ◌&&◌, List, [], ◌∷◌, ◌++◌, length, Option, Some, None, refl, sym, ◌∙◌, ap₂, subst, ⊎_elim, arith, lt-ltb, ltb-true}
+use Rattle.std.proofs.Common.{◌≡◌, ℕ, true, false, cond, ◌&&◌, List, [], ◌∷◌, ◌++◌, length, Some, None, refl, sym, ◌∙◌, ap₂, subst, ⊎_elim, arith, lt-ltb, ltb-true}
 use Rattle.std.specs.Prelude.{nat_lt}
 use Rattle.crn_fraction.specs.Rational.{ℚ, 0ℚ, ◌<ℚ◌}
 use Rattle.crn_fraction.proofs.Linear.{not_<ℚ}

@@ -1,8 +1,7 @@
 -- One line more after the function part, and the end of the text.
-use Rattle.std.proofs.Common.{◌≡◌, ℕ, zero, suc, ◌+◌, ◌*◌, ◌≤◌, ◌++◌, Bool, true, false, cond, List, [], ◌∷◌, length, drop, map, Option, Some, None, refl, sym, ◌∙◌, ap, ap₂, subst, arith, length-append}
+use Rattle.std.proofs.Common.{◌≡◌, ℕ, zero, suc, ◌+◌, ◌*◌, ◌++◌, cond, List, [], ◌∷◌, length, drop, map, Option, Some, None, refl, ◌∙◌, ap, ap₂, subst, arith, length-append}
 use Rattle.std.specs.Option.{option_map, option_and_then}
 use Rattle.crn_fraction.specs.Rational.{ℚ}
-use Rattle.crn_token.specs.declared.Counted.{Counted}
 use Rattle.crn_token.specs.declared.Counted.TheVariants as counted
 use Rattle.crn_token.specs.declared.Token.{Token}
 use Rattle.crn_token.specs.declared.Line.{Line}

@@ -1,9 +1,8 @@
 -- What holds at each place to which lines lead, and that each place can end.
 use Rattle.std.proofs.Common.{◌≡◌, ℕ, zero, suc, ◌+◌, ◌<◌, ◌≤◌, Bool, true, false, cond, ◌&&◌, ◌||◌, ◌==◌, List, [], ◌∷◌, ◌++◌, length, Option, Some, None, refl, sym, ap, ◌∙◌, subst, arith, false-eqb, le-leb, lt-ltb, ne_eqb, length-append}
-use Rattle.std.proofs.lemmas.Bool.{leb-true, ltb-false}
+use Rattle.std.proofs.lemmas.Bool.{leb-true}
 use Rattle.std.specs.Prelude.{pos, codes, nat_lt, nat_le, not}
-use Rattle.std.specs.Option.{option_map, option_and_then, option_map_or}
-use Rattle.crn_token.specs.declared.Counted.{Counted}
+use Rattle.std.specs.Option.{option_map, option_and_then}
 use Rattle.crn_token.specs.declared.Counted.TheVariants as counted
 use Rattle.crn_token.specs.declared.Sign.TheVariants.{Arrow}
 use Rattle.crn_token.specs.Plain.{Plain, PlainLine, PlainWord, PlainNumber, PlainSign}
@@ -13,7 +12,7 @@ use Rattle.crn_grammar.proofs.LimitLaws.{not_passed, neither}
 use Rattle.crn_grammar.proofs.Turns.{judged_read}
 use Rattle.crn_grammar.proofs.TableLaws.{can_end}
 use Rattle.crn_token.specs.Words.{rest_of, says, begins, number_at}
-use Rattle.crn_grammar.specs.Limits.{above, or_else}
+use Rattle.crn_grammar.specs.Limits.{above}
 use Rattle.crn_net.specs.Network.{Reaction, Network, IsReaction, IsEnds, AreDifferent, IsApart, IsContext, input_species, numbered}
 use Rattle.crn_net.specs.Inputs.{species_of, AreNew}
 use Rattle.crn_net.specs.Limits.{IsValid}

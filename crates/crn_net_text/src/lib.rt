@@ -52,11 +52,7 @@ pub fn read_network_lines(
 }
 
 // The network part, line by line.
-fn read_part(
-    alloc: Global,
-    bytes: &[u8],
-    lines: &Lines,
-) -> Result<(Network, usize), NetTextError>
+fn read_part(alloc: Global, bytes: &[u8], lines: &Lines) -> Result<(Network, usize), NetTextError>
     requires lines { AreLinesOf bytes.now lines.now }
     ensures answer { GivesPart (λ n. n) (plain_lines bytes.now) result (network_part bytes.now) }
     ensures next { IfOk result (λ r. r.1 ≤ vec_len lines.now.lines) }

@@ -1,14 +1,14 @@
 -- No number of a text is above the greatest.
-use Rattle.std.proofs.Common.{◌≡◌, ℕ, zero, suc, ◌+◌, ◌-◌, ◌==◌, ◌<◌, ◌^◌, Bool, true, false, cond, ◌&&◌, ◌||◌, not, pos, List, [], ◌∷◌, ◌++◌, length, take, drop, Option, Some, None, refl, ap, arith}
-use Rattle.std.specs.Prelude.{nat_le, slice_index, unsigned_abs}
+use Rattle.std.proofs.Common.{◌≡◌, ℕ, zero, suc, ◌+◌, ◌-◌, ◌==◌, Bool, true, false, cond, ◌&&◌, ◌||◌, not, pos, List, [], ◌∷◌, ◌++◌, length, take, drop, Option, Some, None, refl, arith}
+use Rattle.std.specs.Prelude.{nat_le, slice_index}
 use Rattle.std.specs.Str.Parse.{digits_value}
 use Rattle.std.specs.Char.{is_ascii_digit, is_ascii_alphabetic}
 use Rattle.std.proofs.lemmas.Bool.{leb-true}
 use Rattle.crn_token.specs.declared.Sign.{Sign}
 use Rattle.crn_token.specs.Piece.{is_blank, is_run, is_number, sign_of, longest}
 use Rattle.crn_token.specs.Lines.{joined, physical_lines, without_comment}
-use Rattle.crn_token.specs.Plain.{Plain, PlainLine, PlainWord, PlainNumber, PlainSign, plain_sign, plain_of, plain_from, said, kept_line, plain_lines_from, plain_lines}
-use Rattle.crn_token.specs.Small.{IsSmall, AreSmall, AreSmallLines}
+use Rattle.crn_token.specs.Plain.{Plain, PlainLine, PlainNumber, plain_sign, plain_of, plain_from, said, kept_line, plain_lines_from, plain_lines}
+use Rattle.crn_token.specs.Small.{AreSmall, AreSmallLines}
 
 -- of two lists of tokens, and of a part of one
 pub small_append : (xs ys : List Plain) → AreSmall xs → AreSmall ys → AreSmall (xs ++ ys)

@@ -1,7 +1,6 @@
-use Rattle.std.proofs.Common.{◌+◌, sym, subst}
-use Rattle.crn_formula.specs.Functions.{IsFitting, ByPieces, IsPieceOver}
-use Rattle.crn_formula.specs.Views.{piece_of, pieces_of}
-use Rattle.crn_formula.proofs.Lists.{All-map}
+use Rattle.std.proofs.Common.{sym, subst}
+use Rattle.crn_formula.specs.Functions.{IsFitting, ByPieces}
+use Rattle.crn_formula.specs.Views.{pieces_of}
 use Rattle.crn_function_text.proofs.Narrowing.{kept_fits}
 use Rattle.crn_function_text.proofs.columns.function_of_pieces.Goals as goal
 
