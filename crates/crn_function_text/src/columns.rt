@@ -1,9 +1,7 @@
 //! Pieces without the column for constants, where none of them has one.
 
 ghost use Rattle.std.specs.Prelude.{◌≡◌, ◌+◌, ◌≤◌, map, length, take, vec_len, All};
-ghost use Rattle.std.specs.List.{list_any};
-ghost use Rattle.crn_formula.specs.Formulas.{has_constant};
-ghost use Rattle.crn_formula.specs.Functions.{ByPieces, IsPieceOver, piece_has_constant};
+ghost use Rattle.crn_formula.specs.Functions.{ByPieces};
 ghost use Rattle.crn_formula.specs.Domains.{domain_for};
 ghost use Rattle.crn_formula.specs.Views.{kind_of, piece_of, pieces_of};
 ghost use Rattle.crn_function_text.specs.Columns.{narrow_piece, kept_columns};

@@ -1,13 +1,11 @@
 //! Where a text of a function stands, and what each line does to it.
 
 ghost use Rattle.std.specs.Prelude.{ℕ, Some, ◌≡◌, ◌+◌, ◌≤◌, ◌++◌, ◌∷◌, [], map, length, IfOk};
-ghost use Rattle.std.specs.List.{sum_by};
 ghost use Rattle.std.specs.Option.{option_map, option_map_or};
 ghost use Rattle.crn_token.specs.Plain.{plain_token};
 ghost use Rattle.crn_token.specs.Words.{rest_of};
 ghost use Rattle.crn_grammar.specs.Table as table;
 ghost use Rattle.crn_grammar.specs.Reading.{judged, Gives};
-ghost use Rattle.crn_formula.specs.Functions.{condition_count};
 ghost use Rattle.crn_formula.specs.Domains.{domain_for};
 ghost use Rattle.crn_formula.specs.Views.{kind_of, pieces_of, piece_of};
 ghost use Rattle.crn_form_text.specs.Built.{fitted};
