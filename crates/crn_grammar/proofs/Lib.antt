@@ -5,3 +5,4 @@ pub mod FollowedLaws
 pub mod Turns
 pub mod LimitLaws
 pub mod FollowedKept
+pub mod FollowedTexts

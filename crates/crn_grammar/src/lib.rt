@@ -6,6 +6,7 @@ mod error;
 ghost use Rattle.std.specs.Prelude.{ℕ, Bool, List, Option, Some, IsTrue, ◌≡◌, ◌↔◌};
 ghost use Rattle.crn_grammar.specs.Table.{Table, CanEnd, IsText, PassesNone, IsAnswer, Answer, Read, after, answer};
 ghost use Rattle.crn_grammar.specs.Part.{Either, Part, PartAnswer, Ends, IsPart, IsPartAnswer, part_answer, joined_table, go_on};
+ghost use Rattle.crn_grammar.specs.Followed.{followed_table};
 
 pub use error::TextError;
 
@@ -61,4 +62,11 @@ pub fn part_comes_first<S, R, L, F, G, W>()
         (number : L → ℕ) (end : ℕ) (s : S) (lines : List L)
         → answer (joined_table table goes_on start next whole limit) number end (Part s) lines
         ≡ go_on table goes_on start next whole limit number end (part_answer table goes_on number end s lines) }
+{}
+
+/// A text of a part and of what follows it, within the limits of both, is a part, and then a text of what follows a part with this value; its value is made of the two values.
+pub fn texts_in_two_parts<S, R, L, F, V, G, W>()
+    ensures { (table : Table S L F W) (goes_on : S → L → Bool) (rest : F → Table R L V W) (value : F → V → G) (lines : List L) (g : G)
+        → (IsText (followed_table table goes_on rest value) lines g × PassesNone (followed_table table goes_on rest value) lines)
+        ↔ ((f : F) × (v : V) × (more : List L) × IsPart table goes_on lines f more × IsText (rest f) more v × PassesNone (rest f) more × (value f v ≡ g)) }
 {}
