@@ -1,4 +1,4 @@
--- When a count of faults rose.
+-- What a call does to a count of faults.
 use Rattle.std.specs.Prelude.{◌≡◌, ℕ, ◌+◌, ◌-◌, ◌^◌, ◌≤◌, min, OnOk, OnErr}
 use Rattle.std.specs.declared.result.Result.{Result}
 
@@ -10,12 +10,8 @@ raised n = min (n + 1) (2 ^ 64 - 1)
 abbrev pub next_call : ℕ → ℕ
 next_call n = raised n
 
--- the count rose, or stands at the greatest u64
-abbrev pub Rose : ℕ → ℕ → Type 0
-Rose before now = raised before ≤ now
-
--- the count doesn't fall; it rose where the call failed, and is as it was where the call did not
+-- the count doesn't fall; it is one more where the call failed, and as it was where the call did not
 pub record HasCause {T E : Type 0} (before now : ℕ) (result : Result T E) : Type 0 where
   pub later : before ≤ now
   pub served : OnOk result (now ≡ before)
-  pub failed : OnErr result (Rose before now)
+  pub failed : OnErr result (now ≡ raised before)

@@ -1,5 +1,5 @@
 -- What a source and a sink in memory hold, and how a call changes it.
-use Rattle.std.specs.Prelude.{ℕ, List, [], ◌++◌, drop, take, Contains}
+use Rattle.std.specs.Prelude.{ℕ, ◌≤◌, List, [], ◌++◌, drop, take, Contains}
 use Rattle.crn_io.specs.Causes.{raised, next_call}
 
 -- a source in memory: the bytes left, how many a call gives at most, the numbers of the calls that fail, the calls and the faults so far
@@ -17,6 +17,10 @@ supply_of bytes step fails = record { left = bytes; step = step; fails = fails; 
 -- the next call is one that fails
 abbrev pub IsListed : List ℕ → ℕ → Type 0
 IsListed fails calls = Contains fails (next_call calls)
+
+-- the last of these calls was one that fails
+abbrev pub WasListed : List ℕ → ℕ → Type 0
+WasListed fails calls = (1 ≤ calls) × Contains fails calls
 
 -- the source after a call that gave n bytes
 abbrev pub after_read : Supply → ℕ → Supply

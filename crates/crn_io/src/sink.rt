@@ -1,10 +1,10 @@
 //! Sinks: in memory, one that only counts, one over a writer of the system, and how all of some bytes are written.
 
-ghost use Rattle.std.specs.Prelude.{ℕ, List, Option, Some, None, [], ◌≡◌, ◌+◌, ◌-◌, ◌^◌, ◌<◌, ◌≤◌, ◌↔◌, ◌⊎◌, length, vec_len, vec_capacity, IfOk, IsOkAnd, OnOk, OnErr, min, take};
+ghost use Rattle.std.specs.Prelude.{ℕ, List, Option, Some, None, [], ◌≡◌, ◌+◌, ◌-◌, ◌^◌, ◌<◌, ◌≤◌, ◌↔◌, ◌⊎◌, length, vec_len, vec_capacity, IfOk, IsOkAnd, OnOk, OnErr, min, take, ⊤};
 ghost use Rattle.std.specs.Io.KnownBytes.{WriteAppends, Appends};
 ghost use Rattle.crn_io.specs.Causes.{HasCause, raised};
-ghost use Rattle.crn_io.specs.Memory.{store_of, IsListed, after_write, after_write_fault};
-ghost use Rattle.crn_io.specs.Moved.{AppendsPart};
+ghost use Rattle.crn_io.specs.Memory.{store_of, IsListed, WasListed, after_write, after_write_fault};
+ghost use Rattle.crn_io.specs.Moved.{AppendsPart, AppendsFront};
 
 use crate::source::Failed;
 use std::alloc::{AllocError, Global};
@@ -19,13 +19,17 @@ pub trait Sink {
     /// How many faults there were.
     ghost faults: { Self → ℕ };
 
+    /// That the last call failed, where the sink tells it.
+    ghost just_failed: { Self → Type 0 } = { λ _. ⊤ };
+
     /// Appends some bytes of the front of `piece`, and says how many. A call that fails appends none.
     fn write(&mut self, piece: &[u8]) -> Result<usize, Failed>
         requires { 0 < length piece.now }
         ensures some { IfOk result (λ n. 1 ≤ n) }
         ensures bound { IfOk result (λ n. n ≤ length piece.now) }
         ensures bytes { WriteAppends (written self.old) (written self.new) result piece.now }
-        ensures cause { HasCause (faults self.old) (faults self.new) result };
+        ensures cause { HasCause (faults self.old) (faults self.new) result }
+        ensures last { OnErr result (just_failed self.new) };
 }
 
 /// A sink into memory that has room for `capacity` bytes, takes at most `step` bytes a call, and fails at the calls whose numbers are listed. The first call is number 1.
@@ -92,12 +96,15 @@ impl Sink for MemSink {
 
     ghost faults = { λ s. s.faults };
 
+    ghost just_failed = { λ s. WasListed s.fails s.calls ⊎ (length s.written ≡ s.capacity) };
+
     fn write(&mut self, piece: &[u8]) -> Result<usize, Failed>
         requires { 0 < length piece.now }
         ensures some { IfOk result (λ n. 1 ≤ n) }
         ensures bound { IfOk result (λ n. n ≤ length piece.now) }
         ensures bytes { WriteAppends (Some self.old.written) (Some self.new.written) result piece.now }
         ensures cause { HasCause self.old.faults self.new.faults result }
+        ensures last { OnErr result (WasListed self.new.fails self.new.calls ⊎ (length self.new.written ≡ self.new.capacity)) }
         ensures fails { OnErr result (IsListed self.old.fails self.old.calls ⊎ (length self.old.written ≡ self.old.capacity)) }
         ensures serves { OnOk result (¬ IsListed self.old.fails self.old.calls) }
         ensures room { OnOk result (length self.old.written < self.old.capacity) }
@@ -152,12 +159,15 @@ impl Sink for CountSink {
 
     ghost faults = { λ _. 0 };
 
+    ghost just_failed = { λ _. ⊥ };
+
     fn write(&mut self, piece: &[u8]) -> Result<usize, Failed>
         requires { 0 < length piece.now }
         ensures some { IfOk result (λ n. 1 ≤ n) }
         ensures bound { IfOk result (λ n. n ≤ length piece.now) }
         ensures bytes { WriteAppends None None result piece.now }
         ensures cause { HasCause 0 0 result }
+        ensures last { OnErr result ⊥ }
         ensures all { IsOkAnd result (λ n. n ≡ length piece.now) }
         ensures count { self.new ≡ min (self.old + length piece.now) (2 ^ 64 - 1) }
     {
@@ -201,7 +211,9 @@ impl<W: Write + Drop> Sink for StdSink<W> {
         ensures bound { IfOk result (λ n. n ≤ length piece.now) }
         ensures bytes { WriteAppends None None result piece.now }
         ensures cause { HasCause self.old.faults self.new.faults result }
+        ensures last { OnErr result ⊤ }
         ensures hands_on { IfOk result (λ n. Appends self.old.known self.new.known (take n piece.now)) }
+        ensures held { OnErr result (AppendsFront self.old.known self.new.known piece.now) }
         ensures ok { OnOk result (self.new.faults ≡ self.old.faults) }
         ensures err { OnErr result (self.new.faults ≡ raised self.old.faults) }
     {
@@ -216,11 +228,12 @@ impl<W: Write + Drop> Sink for StdSink<W> {
     }
 }
 
-/// Appends all the bytes. Where a call of the sink fails, what was appended before it stays.
+/// Appends all the bytes. A call of the sink that fails is the last, and what was appended before it stays.
 pub fn write_all<K: Sink>(sink: &mut K, bytes: &[u8]) -> Result<(), Failed>
     ensures ok { OnOk result (Appends (K.written sink.old) (K.written sink.new) bytes.now) }
     ensures err { OnErr result (AppendsPart (K.written sink.old) (K.written sink.new) bytes.now) }
     ensures cause { HasCause (K.faults sink.old) (K.faults sink.new) result }
+    ensures last { OnErr result (K.just_failed sink.new) }
 {
     let mut done = 0;
     'turns: while done < bytes.len() {

@@ -1,10 +1,10 @@
 //! Sources: in memory, and one over a reader of the system, and how all of the bytes are read.
 
-ghost use Rattle.std.specs.Prelude.{ℕ, List, Option, Some, None, ◌≡◌, ◌+◌, ◌-◌, ◌^◌, ◌<◌, ◌≤◌, ◌↔◌, length, vec_len, IfOk, IsOkAnd, OnOk, OnErr, IsErrOf, min, take};
+ghost use Rattle.std.specs.Prelude.{ℕ, List, Option, Some, None, ◌≡◌, ◌+◌, ◌-◌, ◌^◌, ◌<◌, ◌≤◌, ◌↔◌, length, vec_len, IfOk, IsOkAnd, OnOk, OnErr, IsErrOf, min, take, ⊤};
 ghost use Rattle.std.specs.Io.{ReadsAtMost};
 ghost use Rattle.std.specs.Io.KnownBytes.{ReadConsumes, Consumes, IsAtEnd};
-ghost use Rattle.crn_io.specs.Causes.{Rose, HasCause, raised};
-ghost use Rattle.crn_io.specs.Memory.{supply_of, IsListed, after_read, after_read_fault};
+ghost use Rattle.crn_io.specs.Causes.{HasCause, raised};
+ghost use Rattle.crn_io.specs.Memory.{supply_of, IsListed, WasListed, after_read, after_read_fault};
 ghost use Rattle.crn_io.specs.Moved.{ConsumesSome};
 
 use std::alloc::{AllocError, Global};
@@ -25,12 +25,16 @@ pub trait Source {
     /// How many faults there were.
     ghost faults: { Self → ℕ };
 
+    /// That the last call failed, where the source tells it.
+    ghost just_failed: { Self → Type 0 } = { λ _. ⊤ };
+
     /// Takes the next bytes into the front of `buf`, and says how many. `Ok(0)` means the end. A call that fails takes none.
     fn read(&mut self, buf: &mut [u8]) -> Result<usize, Failed>
         requires { 0 < length buf.old }
         ensures bound { ReadsAtMost result buf.new }
         ensures bytes { ReadConsumes (left self.old) (left self.new) result buf.new }
-        ensures cause { HasCause (faults self.old) (faults self.new) result };
+        ensures cause { HasCause (faults self.old) (faults self.new) result }
+        ensures last { OnErr result (just_failed self.new) };
 }
 
 // Copies as many bytes as there is room for, and at most `most`.
@@ -74,11 +78,14 @@ impl Source for PlainSource {
 
     ghost faults = { λ _. 0 };
 
+    ghost just_failed = { λ _. ⊥ };
+
     fn read(&mut self, buf: &mut [u8]) -> Result<usize, Failed>
         requires { 0 < length buf.old }
         ensures bound { ReadsAtMost result buf.new }
         ensures bytes { ReadConsumes (Some self.old) (Some self.new) result buf.new }
         ensures cause { HasCause 0 0 result }
+        ensures last { OnErr result ⊥ }
         ensures count { IsOkAnd result (λ n. n ≡ min (length self.old) (length buf.old)) }
     {
         let count = copy_front(&self.bytes[self.at..], buf, usize::MAX);
@@ -138,11 +145,14 @@ impl Source for MemSource {
 
     ghost faults = { λ s. s.faults };
 
+    ghost just_failed = { λ s. WasListed s.fails s.calls };
+
     fn read(&mut self, buf: &mut [u8]) -> Result<usize, Failed>
         requires { 0 < length buf.old }
         ensures bound { ReadsAtMost result buf.new }
         ensures bytes { ReadConsumes (Some self.old.left) (Some self.new.left) result buf.new }
         ensures cause { HasCause self.old.faults self.new.faults result }
+        ensures last { OnErr result (WasListed self.new.fails self.new.calls) }
         ensures fails { OnErr result (IsListed self.old.fails self.old.calls) }
         ensures serves { OnOk result (¬ IsListed self.old.fails self.old.calls) }
         ensures count { IfOk result (λ n. n ≡ min (length self.old.left) (min self.old.step (length buf.old))) }
@@ -194,6 +204,7 @@ impl<R: Read + Drop> Source for StdSource<R> {
         ensures bound { ReadsAtMost result buf.new }
         ensures bytes { ReadConsumes None None result buf.new }
         ensures cause { HasCause self.old.faults self.new.faults result }
+        ensures last { OnErr result ⊤ }
         ensures hands_on { ReadConsumes self.old.known self.new.known result buf.new }
         ensures ok { OnOk result (self.new.faults ≡ self.old.faults) }
         ensures err { OnErr result (self.new.faults ≡ raised self.old.faults) }
@@ -235,7 +246,7 @@ impl From<AllocError> for ReadAllError {
 // How many bytes one call asks for at most.
 const BLOCK: usize = 4096;
 
-/// All the bytes up to the end, where there are at most `limit`. It takes at most one byte more, and what it took before a refusal stays taken.
+/// All the bytes up to the end, where there are at most `limit`. It takes at most one byte more, and what it took before a refusal stays taken. A call that fails is the last.
 pub fn read_all<S: Source>(
     alloc: Global,
     source: &mut S,
@@ -246,7 +257,8 @@ pub fn read_all<S: Source>(
     ensures end { OnOk result (IsAtEnd (S.left source.new)) }
     ensures within { IfOk result (λ v. vec_len v ≤ limit) }
     ensures too_long { IsErrOf result ReadAllError.TooLong → ConsumesSome (S.left source.old) (S.left source.new) (λ n. n ≡ limit + 1) }
-    ensures fault { IsErrOf result ReadAllError.Fault → Rose (S.faults source.old) (S.faults source.new) }
+    ensures fault { IsErrOf result ReadAllError.Fault → S.faults source.new ≡ raised (S.faults source.old) }
+    ensures last { IsErrOf result ReadAllError.Fault → S.just_failed source.new }
     ensures fault_within { IsErrOf result ReadAllError.Fault → ConsumesSome (S.left source.old) (S.left source.new) (λ n. n ≤ limit) }
     ensures memory { IsErrOf result ReadAllError.Memory → ConsumesSome (S.left source.old) (S.left source.new) (λ n. n ≤ limit) }
     ensures later { S.faults source.old ≤ S.faults source.new }

@@ -1,7 +1,7 @@
 //! The whole answer, before anything is written.
 
 ghost use Rattle.std.specs.Prelude.{ℕ, List, map, ◌≡◌, ◌⊎◌, ◌≤◌, ◌+◌, length, string_bytes, IfOk, OnOk, IsErrOf};
-ghost use Rattle.crn_io.specs.Causes.{Rose};
+ghost use Rattle.crn_io.specs.Causes.{raised};
 ghost use Rattle.crn_io.specs.Moved.{ConsumesSome};
 ghost use Rattle.crn_program.specs.Answer.{Answers, Says, IsFoundByText, text_limit};
 ghost use Rattle.crn_program.specs.Told.{AnswersTo, TakesText};
@@ -59,7 +59,8 @@ fn text_answer<S: Source>(
     ensures answers { IfOk result (λ reply. AnswersTo (λ bytes. Says (IsFoundByText command bytes)) (S.left source.old) reply.status reply.text.items) }
     ensures takes { OnOk result (TakesText (S.left source.old) (S.left source.new)) }
     ensures within { ConsumesSome (S.left source.old) (S.left source.new) (λ n. n ≤ text_limit + 1) }
-    ensures fault { IsErrOf result Stop.ReadFault → Rose (S.faults source.old) (S.faults source.new) }
+    ensures fault { IsErrOf result Stop.ReadFault → S.faults source.new ≡ raised (S.faults source.old) }
+    ensures last { IsErrOf result Stop.ReadFault → S.just_failed source.new }
     ensures no_fault { ¬ IsErrOf result Stop.ReadFault → S.faults source.new ≡ S.faults source.old }
 {
     match read_all(alloc, source, TEXT_LIMIT) {
@@ -83,7 +84,8 @@ pub(crate) fn answer<S: Source>(
     ensures takes { OnOk result (ReadNoText (map string_bytes words.now) ⊎ TakesText (S.left source.old) (S.left source.new)) }
     ensures within { ReadNoText (map string_bytes words.now) ⊎ ConsumesSome (S.left source.old) (S.left source.new) (λ n. n ≤ text_limit + 1) }
     ensures untouched { ReadNoText (map string_bytes words.now) → source.new ≡ source.old }
-    ensures fault { IsErrOf result Stop.ReadFault → Rose (S.faults source.old) (S.faults source.new) }
+    ensures fault { IsErrOf result Stop.ReadFault → S.faults source.new ≡ raised (S.faults source.old) }
+    ensures last { IsErrOf result Stop.ReadFault → S.just_failed source.new }
     ensures no_fault { ¬ IsErrOf result Stop.ReadFault → S.faults source.new ≡ S.faults source.old }
     ensures no_text { ReadNoText (map string_bytes words.now) → IsErrOf result Stop.ReadFault → ⊥ }
 {

@@ -2,7 +2,7 @@
 #![tactic(auto)]
 
 ghost use Rattle.std.specs.Prelude.{map, ◌≡◌, ◌≢◌, ◌⊎◌, ◌+◌, ◌≤◌, string_bytes};
-ghost use Rattle.crn_io.specs.Causes.{Rose};
+ghost use Rattle.crn_io.specs.Causes.{raised};
 ghost use Rattle.crn_io.specs.Moved.{ConsumesSome};
 ghost use Rattle.crn_program.specs.Answer.{Answers, text_limit};
 ghost use Rattle.crn_program.specs.Words.{ReadNoText};
@@ -51,10 +51,12 @@ pub fn top<S: Source, K: Sink>(
     ensures within { ReadNoText (map string_bytes words.now) ⊎ ConsumesSome (S.left source.old) (S.left source.new) (λ n. n ≤ text_limit + 1) }
     ensures untouched { ReadNoText (map string_bytes words.now) → source.new ≡ source.old }
 
-    // A fault is told exactly where there was one.
-    ensures read_fault { result ≡ Status.ReadFault → Rose (S.faults source.old) (S.faults source.new) }
+    // A fault is told exactly where there was one, and the call that failed is the last.
+    ensures read_fault { result ≡ Status.ReadFault → S.faults source.new ≡ raised (S.faults source.old) }
+    ensures last_read { result ≡ Status.ReadFault → S.just_failed source.new }
     ensures no_read_fault { result ≢ Status.ReadFault → S.faults source.new ≡ S.faults source.old }
-    ensures write_fault { result ≡ Status.WriteFault → Rose (K.faults sink.old) (K.faults sink.new) }
+    ensures write_fault { result ≡ Status.WriteFault → K.faults sink.new ≡ raised (K.faults sink.old) }
+    ensures last_write { result ≡ Status.WriteFault → K.just_failed sink.new }
     ensures no_write_fault { result ≢ Status.WriteFault → K.faults sink.new ≡ K.faults sink.old }
     ensures no_text { ReadNoText (map string_bytes words.now) → result ≢ Status.ReadFault }
 {
