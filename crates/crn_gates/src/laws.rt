@@ -18,6 +18,13 @@ ghost use Rattle.crn_gates.specs.Values.{StampsOnTwo, StampsOnOne, MakesOfTwo, M
 ghost use Rattle.crn_gates.specs.Lesser.{lesser};
 ghost use Rattle.crn_gates.specs.MinimumLayout.{with_minimum};
 
+use crate::MOST_SPECIES;
+
+/// The greatest number of species of a network, which the calls of a builder compare with.
+pub fn most_species()
+    ensures { MOST_SPECIES ≡ 65536 }
+{}
+
 /// The factor of a fraction multiplies by it.
 pub fn factors_multiply()
     ensures { (q x : ℚ) → times (factor_of q) x ≡ q *ℚ x }
