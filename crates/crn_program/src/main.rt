@@ -1,21 +1,23 @@
 //! Compiles functions to rate-independent reaction networks, and completes and replays runs of them: one command, from a text on standard input.
 #![tactic(auto)]
 
-ghost use Rattle.std.specs.Prelude.{map, ◌≡◌, ◌≢◌, ◌⊎◌, ◌+◌, ◌≤◌, string_bytes};
+ghost use Rattle.std.specs.Prelude.{map, drop, ◌≡◌, ◌≢◌, ◌⊎◌, ◌+◌, ◌≤◌, string_bytes, IfOk, IfErr, IsErr};
 ghost use Rattle.crn_io.specs.Causes.{raised};
 ghost use Rattle.crn_io.specs.Moved.{ConsumesSome};
 ghost use Rattle.crn_program.specs.Answer.{Answers, text_limit};
-ghost use Rattle.crn_program.specs.Words.{ReadNoText};
+ghost use Rattle.crn_program.specs.Words.{ReadNoText, given_words};
 ghost use Rattle.crn_program.specs.Told.{Told, AnswersTo, TakesText};
 ghost use Rattle.crn_program.specs.Statuses.{number_of};
+ghost use Rattle.std.specs.IoError.{error_kind};
 ghost use Rattle.std.specs.Process.{exit_status};
+ghost use Rattle.std.specs.Vec.Iter.{into_iter_items};
 
 use answer::{Stop, answer};
 use crn_io::{Failed, Sink, Source, StdSink, StdSource, write_all};
 use status::Status;
 use std::alloc::{AllocError, Global};
+use std::io::ErrorKind;
 use std::process::ExitCode;
-use std::rt::Env;
 use std::{env, io};
 
 mod answer;
@@ -70,12 +72,31 @@ pub fn top<S: Source, K: Sink>(
     }
 }
 
-// The words of the command line, without the program's name. Words that are no text are one empty word.
-fn given_words(rt: &(impl Env + AllocGlobal)) -> Result<Vec<String>, AllocError> {
-    match env::args(rt) {
-        Ok(args) => args.skip(1).collect(rt.alloc()),
-        Err(error) if error.kind() == io::ErrorKind::OutOfMemory => Err(AllocError),
-        Err(_) => Ok(vec![in rt.alloc(); String::new(rt.alloc())]?),
+// The words after the program's name.
+fn after_name(alloc: Global, given: env::Args) -> Result<Vec<String>, AllocError>
+    ensures { IfOk result (λ words. words.items ≡ drop 1 (into_iter_items given)) }
+{
+    let mut rest = given;
+    let _name = rest.next();
+    let mut words = Vec::new(alloc);
+    'words: for word in rest {
+        words.push(word)?;
+    }
+    Ok(words)
+}
+
+// The words that the command line gives, without the program's name. Words that are no text are one empty word.
+fn given_words(
+    alloc: Global,
+    given: io::Result<env::Args>,
+) -> Result<Vec<String>, AllocError>
+    ensures words { IfOk result (λ words. map string_bytes words.items ≡ given_words given) }
+    ensures memory { IfErr given (λ error. error_kind error ≡ ErrorKind.OutOfMemory → IsErr result) }
+{
+    match given {
+        Ok(words) => after_name(alloc, words),
+        Err(error) if error.kind() == ErrorKind::OutOfMemory => Err(AllocError),
+        Err(_) => Ok(vec![in alloc; String::new(alloc)]?),
     }
 }
 
@@ -86,16 +107,28 @@ fn exit_code(status: Status) -> ExitCode
     ExitCode::from(status.number())
 }
 
-fn main(rt: HostRuntime) -> ExitCode {
-    let status = match given_words(&rt) {
-        Ok(words) => {
-            let mut source = StdSource::new(rt.stdin());
-            let mut sink = StdSink::new(rt.stdout());
-            top(rt.alloc(), &words, &mut source, &mut sink)
-        }
-        Err(_) => Status::Memory,
+/// Runs the program on the words that the command line gives, and answers its exit status.
+fn run_on<S: Source, K: Sink>(
+    alloc: Global,
+    given: io::Result<env::Args>,
+    source: &mut S,
+    sink: &mut K,
+) -> ExitCode
+    ensures told { (status : Status) × (exit_status result ≡ number_of status) × Told (AnswersTo (Answers (given_words given)) (S.left source.old)) (K.written sink.old) (K.written sink.new) status }
+    // Words for which there was no memory are no words: nothing is read or written.
+    ensures memory { IfErr given (λ error. error_kind error ≡ ErrorKind.OutOfMemory → (exit_status result ≡ number_of Status.Memory) × (source.new ≡ source.old) × (sink.new ≡ sink.old)) }
+{
+    let status = match given_words(alloc, given) {
+        Ok(words) => top(alloc, &words, source, sink),
+        Err(AllocError) => Status::Memory,
     };
     exit_code(status)
+}
+
+fn main(rt: HostRuntime) -> ExitCode {
+    let mut source = StdSource::new(rt.stdin());
+    let mut sink = StdSink::new(rt.stdout());
+    run_on(rt.alloc(), env::args(&rt), &mut source, &mut sink)
 }
 
 #[cfg(test)]
