@@ -1,16 +1,17 @@
 -- What holds of the drawn forms and amounts, and so of the job.
-use Rattle.std.proofs.Common.{◌≡◌, ℕ, zero, suc, ◌+◌, ◌*◌, ◌%◌, ◌<◌, ◌≤◌, ◌^◌, true, false, cond, ◌||◌, not, List, [], ◌∷◌, ◌++◌, length, refl, sym, ap, ap₂, ⊎_elim, ◌∙◌, subst, arith, length-append, replicate}
+use Rattle.std.proofs.Common.{◌≡◌, ℕ, zero, suc, ◌+◌, ◌*◌, ◌%◌, ◌<◌, ◌≤◌, ◌^◌, false, cond, ◌||◌, not, List, [], ◌∷◌, ◌++◌, length, refl, sym, ap, ap₂, ◌∙◌, subst, arith, length-append, replicate}
 use Rattle.std.specs.Prelude.{All}
 use Rattle.std.proofs.Math.Seq.{take-append_seam, drop-append_seam}
 use Rattle.std.proofs.lemmas.List.{length-set, get_or_past}
 use Rattle.std.proofs.lemmas.List.Elements.{All-nil, All-push, All-head, All-take, All-drop}
-use Rattle.crn_fraction.proofs.Products.{whole_nonneg, is_zero_ℚ_cases}
+use Rattle.crn_fraction.proofs.Products.{whole_nonneg, is_zero_ℚ-zero}
 use Rattle.crn_fraction.specs.Rational.{ℚ, 0ℚ, is_zero_ℚ}
 use Rattle.crn_formula.specs.Formulas.{Formula, Lin, Add, Sub, Scale, Min, Max, node_count, depth_of, IsOver, formula_has_constant}
 use Rattle.crn_formula.specs.Functions.{Kind, ByFormula, IsFitting}
 use Rattle.crn_job.specs.Grammar.{PlainJob}
 use Rattle.crn_net.specs.declared.Flow.{Flow}
 use Rattle.crn_net.specs.Network.{AreNotNegative}
+use Rattle.crn_net.proofs.Start.{AreNotNegative-append}
 use Rattle.crn_linear.specs.Forms.{entry_of}
 use Rattle.crn_bulk.specs.Generator.{next, coefficient, leaf, leaves, pair, amounts, tree, bulk_formula, bulk_amounts, bulk_job}
 use Rattle.crn_bulk.specs.Leaves.{leaves_of}
@@ -54,14 +55,11 @@ over_four (Scale q a) all = over_four a all
 over_four (Min a b) all = both_of_four a b (over_four a) (over_four b) all
 over_four (Max a b) all = both_of_four a b (over_four a) (over_four b) all
 
-is_zero_ℚ-zero : is_zero_ℚ 0ℚ ≡ true
-is_zero_ℚ-zero = ⊎_elim (λ zero. zero.1) (λ other. absurd (other.0 refl)) (is_zero_ℚ_cases 0ℚ)
-
 -- a form of four columns has no constant past them
 no_constant : (form : List ℚ) → length form ≡ 4 → not (is_zero_ℚ (entry_of form 4)) ≡ false
 no_constant form long =
     let past : entry_of form 4 ≡ 0ℚ = get_or_past form 4 0ℚ (omega arith) in
-    ap (λ q. not (is_zero_ℚ q)) past ∙ ap not (is_zero_ℚ-zero)
+    ap (λ q. not (is_zero_ℚ q)) past ∙ ap not (is_zero_ℚ-zero 0ℚ refl)
 
 no_constants : (e : Formula) → IsOver 4 e → formula_has_constant 4 e ≡ false
 no_constants (Lin form) long = no_constant form long
@@ -99,10 +97,6 @@ bulk_tree n some = let long = leaves_long n n in tree-over (leaves n n).made (le
 
 -- ---- amounts
 
-not_negative_append : (xs ys : List ℚ) → AreNotNegative xs → AreNotNegative ys → AreNotNegative (xs ++ ys)
-not_negative_append [] ys first second = second
-not_negative_append (x ∷ xs) ys first second = (first.0, not_negative_append xs ys first.1 second)
-
 pub amounts_long : (n z : ℕ) → length (amounts n z).made ≡ 2 * n
 amounts_long zero z = refl
 amounts_long (suc n) z =
@@ -112,7 +106,7 @@ amounts_long (suc n) z =
 
 pub amounts_not_negative : (n z : ℕ) → AreNotNegative (amounts n z).made
 amounts_not_negative zero z = tt
-amounts_not_negative (suc n) z = not_negative_append (amounts n z).made (pair (amounts n z).number).made (amounts_not_negative n z) (whole_nonneg _, (whole_nonneg _, tt))
+amounts_not_negative (suc n) z = AreNotNegative-append (amounts n z).made (pair (amounts n z).number).made (amounts_not_negative n z) (whole_nonneg _, (whole_nonneg _, tt))
 
 -- ---- the parts of the job, one after another
 

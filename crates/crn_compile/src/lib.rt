@@ -23,6 +23,7 @@ pub mod laws;
 /// Why a function is not compiled. It is dropped then.
 #[derive(Debug, Drop, Error)]
 pub enum CompileError {
+    /// Memory ran out.
     #[error("out of memory")]
     Memory,
 }

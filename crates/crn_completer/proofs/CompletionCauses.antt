@@ -1,6 +1,7 @@
 -- What refuses a completion is its cause, and only that.
-use Rattle.std.proofs.Common.{◌≡◌, ◌≢◌, ℕ, zero, suc, ◌+◌, ◌-◌, ◌<◌, ◌≤◌, ◌==◌, if◌then◌else◌, Bool, true, false, List, [], ◌∷◌, length, pos, Option, Some, None, is_some, refl, sym, ◌∙◌, ap, ap₂, subst, ◌⊎◌, inl, inr, ⊎_elim, arith}
+use Rattle.std.proofs.Common.{◌≡◌, ◌≢◌, ℕ, zero, suc, ◌+◌, ◌-◌, ◌<◌, ◌≤◌, if◌then◌else◌, Bool, true, false, List, [], ◌∷◌, length, pos, Option, Some, None, is_some, refl, sym, ◌∙◌, ap, ap₂, subst, ◌⊎◌, inl, inr, ⊎_elim, arith}
 use Rattle.std.specs.Option.{option_or, option_map}
+use Rattle.std.proofs.lemmas.Bool.{cases_eq, cases_Bool}
 use Rattle.crn_fraction.specs.Frac.{IsFrac}
 use Rattle.crn_fraction.specs.Rational.{ℚ, ◌/ℚ◌, whole}
 use Rattle.crn_net.proofs.Shape.{count_of_other, count_of_same, count_of_in_range}
@@ -9,11 +10,12 @@ use Rattle.crn_net.specs.Network.{Network, Part, AreParts, AreReactions, IsNetwo
 use Rattle.crn_net.specs.Totals.{change}
 use Rattle.crn_net.specs.declared.Flow.{Flow}
 use Rattle.crn_segments.proofs.SignLaws.{frac_is, not_frac_is, is_frac_cases}
-use Rattle.crn_segments.proofs.Steps.{map_some, or_some, same_or_other, sum_is, sum_fits}
+use Rattle.crn_segments.proofs.Steps.{map_some, or_some, sum_is, sum_fits}
 use Rattle.crn_segments.specs.Fits.{SpeciesFits, TurnFits, flows_with}
 use Rattle.crn_segments.specs.Signs.{is_frac}
 use Rattle.crn_segments.specs.Step.{sum_of}
-use Rattle.crn_completer.proofs.Fitting.{quotients_fit, fitting_quotients, true_or_false, absent, present, either, named, fitting_turn, turns_fit, fitting_turns}
+use Rattle.crn_segments.proofs.StepCauses.{more_counted}
+use Rattle.crn_completer.proofs.Fitting.{quotients_fit, fitting_quotients, absent, present, either, named, fitting_turn, turns_fit, fitting_turns}
 use Rattle.crn_completer.proofs.InTurn.{refusal_stays}
 use Rattle.crn_completer.specs.Causes.{turn_state, TurnGoes, IsFirstQuotient, IsFirstSum, TurnStopsAt, IsCompletionCause}
 use Rattle.crn_completer.specs.Refusal.{lacks, unfit_quotient, unfit_sum, turn_refusal, completion_refusal_to, completion_refusal}
@@ -28,9 +30,6 @@ record UnfitAmong (m : ℕ → ℚ) (ps : List Part) (s : ℕ) : Type 0 where
   pub reactant : 0 < count_of ps s
   pub unfit : FitsAmong m ps s → ⊥
   pub earlier : (t : ℕ) → t < s → 0 < count_of ps t → FitsAmong m ps t
-
-more_counted : (p : Part) (ps : List Part) (t : ℕ) → 0 < count_of ps t → 0 < count_of (p ∷ ps) t
-more_counted p ps t h = let more : 0 < (if p.species == t then p.count else 0) + count_of ps t = omega arith in more
 
 -- the quotient of the first part, and those of the others
 head_fits : (low n : ℕ) (m : ℕ → ℚ) (p : Part) (ps : List Part) (s : ℕ) → AreParts low n (p ∷ ps) → p.species ≡ s → IsFrac (m p.species /ℚ whole (pos p.count)) → FitsAmong m (p ∷ ps) s
@@ -58,7 +57,7 @@ unfit_among low n m (p ∷ ps) s ok h =
       reactant = more_counted p ps s rest.reactant;
       unfit = λ fits. rest.unfit (fits_rest m p ps s (λ e. absurd (omega (arith, above.0, e))) fits);
       earlier = λ t less some. ⊎_elim (λ (e : p.species ≡ t). head_fits low n m p ps t ok e k.1)
-          (λ (o : p.species ≢ t). rest_fits m p ps t o (rest.earlier t less (subst (λ x. 0 < x) (count_of_other p ps t o) some))) (same_or_other p.species t);
+          (λ (o : p.species ≢ t). rest_fits m p ps t o (rest.earlier t less (subst (λ x. 0 < x) (count_of_other p ps t o) some))) (cases_eq p.species t);
     })
     (λ (k : (is_frac q ≡ false) × (IsFrac q → ⊥)).
     let this : Some p.species ≡ Some s = sym (ap test k.0) ∙ h in
@@ -91,7 +90,7 @@ among_unfit low n m (p ∷ ps) s ok a =
           let above' = count_of_in_range p.species n ps t ok.3 k in
           fits_rest m p ps t (λ e. absurd (omega (arith, above'.0, e))) (a.earlier t less (more_counted p ps t k));
     }))
-    (same_or_other p.species s)
+    (cases_eq p.species s)
 
 -- ---- the first sum that does not fit
 
@@ -186,7 +185,7 @@ module _ (net : Network) (ok : AreReactions net) (r : ℕ) (low : 1 ≤ r) (high
             inr (record { quotients = λ q some. quotients_fit 0 net.species (amount c) parts (ok r low high).takes k.0 q some; sum = first_sum net c alone_step s k.1 }))
             (or_some (unfit_quotient (amount c) parts) (unfit_sum (sum_of net c alone_step) 1 net.species) s (sym (ap (either net ok r low high c) t) ∙ h));
       })
-      (true_or_false (lacks (amount c) parts))
+      (cases_Bool (lacks (amount c) parts))
 
   stopped : (s : ℕ) → TurnStopsAt net r c s → turn_refusal net r c ≡ Some s
   unfolding taken parts alone_step either
@@ -201,7 +200,7 @@ module _ (net : Network) (ok : AreReactions net) (r : ℕ) (low : 1 ≤ r) (high
       (λ (q : IsFirstSum net r c s).
       ap₂ option_or (fitting_quotients 0 net.species (amount c) parts (ok r low high).takes q.quotients) (sum_first net c alone_step s q.sum))
       k.place)
-      (true_or_false (lacks (amount c) parts))
+      (cases_Bool (lacks (amount c) parts))
 
 -- ---- the completion
 

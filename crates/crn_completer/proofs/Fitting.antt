@@ -1,6 +1,7 @@
 -- Nothing refuses a completion exactly where it fits.
 use Rattle.std.proofs.Common.{◌≡◌, ◌≢◌, ℕ, zero, suc, ◌+◌, ◌<◌, ◌≤◌, if◌then◌else◌, Bool, true, false, List, [], ◌∷◌, length, pos, Option, Some, None, is_some, refl, sym, ◌∙◌, ap, ap₂, subst, ◌⊎◌, inl, inr, ⊎_elim, arith}
 use Rattle.std.specs.Option.{option_or, option_map}
+use Rattle.std.proofs.lemmas.Bool.{cases_eq, cases_Bool}
 use Rattle.crn_fraction.specs.Frac.{IsFrac}
 use Rattle.crn_fraction.specs.Rational.{ℚ, ◌/ℚ◌, whole}
 use Rattle.crn_net.proofs.Shape.{count_of_other, count_of_same, count_of_in_range}
@@ -12,7 +13,7 @@ use Rattle.crn_segments.proofs.Steps.{or_none, sum_is, sum_fits}
 use Rattle.crn_segments.specs.Fits.{StepFits, TurnFits, CompletionFits, flows_with}
 use Rattle.crn_segments.specs.Signs.{is_frac}
 use Rattle.crn_segments.specs.Step.{sum_of}
-use Rattle.crn_completer.proofs.Turns.{lacks_some, lacks_none, same_or_other}
+use Rattle.crn_completer.proofs.Turns.{lacks_some, lacks_none}
 use Rattle.crn_completer.specs.Refusal.{lacks, unfit_quotient, unfit_sum, turn_refusal, completion_refusal_to, completion_refusal}
 use Rattle.crn_completer.specs.declared.CompletionTooBig.{CompletionTooBig}
 
@@ -28,7 +29,7 @@ quotients_fit low n m (p ∷ ps) ok h s some =
     (λ (other : p.species ≢ s).
     let same : count_of (p ∷ ps) s ≡ count_of ps s = count_of_other p ps s other in
     subst (λ k. IsFrac (m s /ℚ whole (pos k))) (sym same) (quotients_fit p.species n m ps ok.3 (sym (ap either t.0) ∙ h) s (subst (λ k. 0 < k) same some)))
-    (same_or_other p.species s))
+    (cases_eq p.species s))
     (λ (t : (is_frac (m p.species /ℚ whole (pos p.count)) ≡ false) × (IsFrac (m p.species /ℚ whole (pos p.count)) → ⊥)). let e : Some p.species ≡ None = sym (ap either t.0) ∙ h in absurd (cc e))
     (is_frac_cases (m p.species /ℚ whole (pos p.count)))
 
@@ -74,10 +75,6 @@ fitting_step net c u h =
 
 -- ---- turns
 
-pub true_or_false : (b : Bool) → (b ≡ true) ⊎ (b ≡ false)
-true_or_false true = inl refl
-true_or_false false = inr refl
-
 module _ (net : Network) (ok : AreReactions net) (r : ℕ) (low : 1 ≤ r) (high : r ≤ length net.reactions) (c : List ℚ) where
   unfoldable pub either : Bool → Option ℕ
   either b = if b then None else option_or (unfit_quotient (amount c) (numbered net.reactions r).takes) (unfit_sum (sum_of net c (alone r (greatest_flux net r (amount c)))) 1 net.species)
@@ -100,7 +97,7 @@ module _ (net : Network) (ok : AreReactions net) (r : ℕ) (low : 1 ≤ r) (high
         quotients = λ _ s some. quotients_fit 0 net.species (amount c) (numbered net.reactions r).takes (ok r low high).takes n.0 s some;
         step = λ _. step_fits net c (alone r (greatest_flux net r (amount c))) n.1;
       })
-      (true_or_false (lacks (amount c) (numbered net.reactions r).takes))
+      (cases_Bool (lacks (amount c) (numbered net.reactions r).takes))
 
   pub fitting_turn : TurnFits net r c → turn_refusal net r c ≡ None
   unfolding taken either
@@ -110,7 +107,7 @@ module _ (net : Network) (ok : AreReactions net) (r : ℕ) (low : 1 ≤ r) (high
       ap either t
       ∙ ap₂ option_or (fitting_quotients 0 net.species (amount c) (numbered net.reactions r).takes (ok r low high).takes (λ s some. f.quotients (present t) s some))
       (fitting_step net c (alone r (greatest_flux net r (amount c))) (f.step (present t))))
-      (true_or_false (lacks (amount c) (numbered net.reactions r).takes))
+      (cases_Bool (lacks (amount c) (numbered net.reactions r).takes))
 
 -- ---- the completion
 

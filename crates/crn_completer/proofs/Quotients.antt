@@ -1,6 +1,6 @@
 -- The quotients of a reaction, part by part.
 use Rattle.std.proofs.Common.{◌≡◌, ℕ, zero, suc, ◌+◌, ◌<◌, ◌≤◌, ◌||◌, if◌then◌else◌, Bool, true, false, List, [], ◌∷◌, length, get_or, drop, Option, Some, None, IsSome, IsTrue, ⊎_elim, ◌≢◌, refl, sym, ◌∙◌, ap, ap₂, subst, arith}
-use Rattle.std.proofs.lemmas.List.{drop_more, drop_all, get_or_default}
+use Rattle.std.proofs.lemmas.List.{drop_all, get_or_default}
 use Rattle.std.proofs.lemmas.Int.{ints}
 use Rattle.std.specs.Prelude.{ℤ, pos, negsuc, ◌<ℤ◌}
 use Rattle.crn_fraction.proofs.Linear.{min_ℚ_assoc}
@@ -10,15 +10,12 @@ use Rattle.crn_net.specs.Network as Plain
 use Rattle.crn_net.specs.Network.{greatest}
 use Rattle.crn_net.specs.Views.{natural, part_of, parts_of}
 use Rattle.crn_net.specs.declared.Part.{Part}
+use Rattle.crn_net.proofs.Sides.{read}
 use Rattle.crn_fraction.proofs.Products.{is_zero_ℚ_cases}
 use Rattle.crn_fraction.specs.Parts.{num-whole}
-use Rattle.crn_segments.proofs.Refusals.{part_in_range}
-use Rattle.crn_segments.proofs.SideWalk.{read}
+use Rattle.crn_segments.proofs.Refusals.{part_in_range, parts_dropped}
 use Rattle.crn_segments.proofs.SignLaws.{frac_is, not_frac_is}
 use Rattle.crn_completer.specs.Refusal.{lacks, unfit_quotient}
-
-dropped : (ps : List Part) (i : ℕ) (p : Part) → i < length ps → p ≡ get_or ps i p → drop i ps ≡ p ∷ drop (i + 1) ps
-dropped ps i p l h = drop_more ps i p l ∙ ap (λ x. x ∷ drop (i + 1) ps) (sym h)
 
 -- the least of a and of the quotients that are left
 abbrev pub least_with : (ℕ → ℚ) → Option ℚ → List Plain.Part → ℚ
@@ -42,12 +39,9 @@ least_more m (Some b) q p (r ∷ ps) e = (
   λ a h. let k : b ≡ a = cc h in ap₂ (λ x y. min_ℚ x (min_ℚ y (greatest (r ∷ ps) m))) k (sym e) ∙ sym (min_ℚ_assoc a q (greatest (r ∷ ps) m)),
 )
 
-pub so_far_none : (m : ℕ → ℚ) (ps : List Part) → SoFar m ps 0 None
-so_far_none m ps = record { fit = refl; same = refl; some = λ h. absurd (omega arith) }
-
 module _ (m : ℕ → ℚ) (ps : List Part) (i : ℕ) (least : Option ℚ) (p : Part) (l : i < length ps) (h : p ≡ get_or ps i p) (e : SoFar m ps i least) where
   step : unfit_quotient m (parts_of ps) ≡ unfit_quotient m (part_of p ∷ parts_of (drop (i + 1) ps))
-  step = e.fit ∙ ap (λ x. unfit_quotient m (parts_of x)) (dropped ps i p l h)
+  step = e.fit ∙ ap (λ x. unfit_quotient m (parts_of x)) (parts_dropped ps i p l h)
 
   pub quotient_stops : (IsFrac (m p.species /ℚ whole (pos (part_of p).count)) → ⊥) → unfit_quotient m (parts_of ps) ≡ Some p.species
   quotient_stops bad = step ∙ ap (λ b. if b then unfit_quotient m (parts_of (drop (i + 1) ps)) else Some p.species) (not_frac_is _ bad)
@@ -55,32 +49,29 @@ module _ (m : ℕ → ℚ) (ps : List Part) (i : ℕ) (least : Option ℚ) (p : 
   pub quotient_first : (q : ℚ) → q ≡ m p.species /ℚ whole (pos (part_of p).count) → IsFrac q → least ≡ None → SoFar m ps (i + 1) (Some q)
   quotient_first q g f none = record {
     fit = step ∙ ap (λ b. if b then unfit_quotient m (parts_of (drop (i + 1) ps)) else Some p.species) (frac_is _ (subst IsFrac g f));
-    same = e.same ∙ ap (λ x. least_with m least (parts_of x)) (dropped ps i p l h) ∙ (least_more m least q (part_of p) (parts_of (drop (i + 1) ps)) g).0 none;
+    same = e.same ∙ ap (λ x. least_with m least (parts_of x)) (parts_dropped ps i p l h) ∙ (least_more m least q (part_of p) (parts_of (drop (i + 1) ps)) g).0 none;
     some = λ _. refl;
   }
 
   pub quotient_more : (q a : ℚ) → q ≡ m p.species /ℚ whole (pos (part_of p).count) → IsFrac q → least ≡ Some a → SoFar m ps (i + 1) (Some (min_ℚ a q))
   quotient_more q a g f some = record {
     fit = step ∙ ap (λ b. if b then unfit_quotient m (parts_of (drop (i + 1) ps)) else Some p.species) (frac_is _ (subst IsFrac g f));
-    same = e.same ∙ ap (λ x. least_with m least (parts_of x)) (dropped ps i p l h) ∙ (least_more m least q (part_of p) (parts_of (drop (i + 1) ps)) g).1 a some;
+    same = e.same ∙ ap (λ x. least_with m least (parts_of x)) (parts_dropped ps i p l h) ∙ (least_more m least q (part_of p) (parts_of (drop (i + 1) ps)) g).1 a some;
     some = λ _. refl;
   }
 
 pub quotients_fit : (m : ℕ → ℚ) (ps : List Part) (i : ℕ) (least : Option ℚ) → length ps ≤ i → SoFar m ps i least → unfit_quotient m (parts_of ps) ≡ None
 quotients_fit m ps i least l e = e.fit ∙ ap (λ x. unfit_quotient m (parts_of x)) (drop_all i ps l)
 
-pub quotients_least : (m : ℕ → ℚ) (ps : List Part) (i : ℕ) (a : ℚ) → length ps ≤ i → SoFar m ps i (Some a) → a ≡ greatest (parts_of ps) m
-quotients_least m ps i a l e = sym (e.same ∙ ap (λ x. least_with m (Some a) (parts_of x)) (drop_all i ps l))
-
 -- ---- absent reactants
 
 pub present_here : (m : ℕ → ℚ) (ps : List Part) (i : ℕ) (p : Part) → i < length ps → p ≡ get_or ps i p → is_zero_ℚ (m p.species) ≡ false →
     lacks m (parts_of ps) ≡ lacks m (parts_of (drop i ps)) → lacks m (parts_of ps) ≡ lacks m (parts_of (drop (i + 1) ps))
-present_here m ps i p l h t e = e ∙ ap (λ x. lacks m (parts_of x)) (dropped ps i p l h) ∙ ap (λ b. b || lacks m (parts_of (drop (i + 1) ps))) t
+present_here m ps i p l h t e = e ∙ ap (λ x. lacks m (parts_of x)) (parts_dropped ps i p l h) ∙ ap (λ b. b || lacks m (parts_of (drop (i + 1) ps))) t
 
 pub absent_here : (m : ℕ → ℚ) (ps : List Part) (i : ℕ) (p : Part) → i < length ps → p ≡ get_or ps i p → is_zero_ℚ (m p.species) ≡ true →
     lacks m (parts_of ps) ≡ lacks m (parts_of (drop i ps)) → lacks m (parts_of ps) ≡ true
-absent_here m ps i p l h t e = e ∙ ap (λ x. lacks m (parts_of x)) (dropped ps i p l h) ∙ ap (λ b. b || lacks m (parts_of (drop (i + 1) ps))) t
+absent_here m ps i p l h t e = e ∙ ap (λ x. lacks m (parts_of x)) (parts_dropped ps i p l h) ∙ ap (λ b. b || lacks m (parts_of (drop (i + 1) ps))) t
 
 -- ---- what the loop reads
 

@@ -1,7 +1,8 @@
 -- The turn of a reaction in a completion.
-use Rattle.std.proofs.Common.{◌≡◌, ◌≢◌, ℕ, zero, suc, ◌+◌, ◌<◌, ◌≤◌, ◌||◌, ◌==◌, if◌then◌else◌, Bool, true, false, List, [], ◌∷◌, length, Option, Some, None, is_some, refl, sym, ◌∙◌, ap, ap₂, subst, ◌⊎◌, ⊎_elim, arith}
+use Rattle.std.proofs.Common.{◌≡◌, ◌≢◌, ℕ, zero, suc, ◌+◌, ◌<◌, ◌≤◌, ◌||◌, ◌==◌, if◌then◌else◌, Bool, true, false, List, [], ◌∷◌, length, Option, Some, None, is_some, refl, sym, ◌∙◌, ap, ap₂, subst, ⊎_elim, arith}
 use Rattle.std.specs.Option.{option_or, option_map}
 use Rattle.std.specs.Prelude.{pos}
+use Rattle.std.proofs.lemmas.Bool.{cases_eq}
 use Rattle.crn_fraction.proofs.Order.{≤ℚ_or_<ℚ, ≤ℚ_antisymm}
 use Rattle.crn_fraction.proofs.Products.{≤ℚ_of_whole-*ℚ, is_zero_ℚ_cases}
 use Rattle.crn_fraction.proofs.Linear.{<ℚ_irrefl}
@@ -19,9 +20,6 @@ use Rattle.crn_segments.specs.Step.{sum_of, sum_refusal, first_refusal, step_ref
 use Rattle.crn_segments.specs.declared.StepError.{StepError}
 use Rattle.crn_segments.specs.declared.StepError.TheVariants.{TooBig, TakesMore}
 use Rattle.crn_completer.specs.Refusal.{lacks, unfit_quotient, unfit_sum, turn_refusal}
-
-pub same_or_other : (a b : ℕ) → (a ≡ b) ⊎ (a ≢ b)
-same_or_other a b = grind arith
 
 -- ---- absent reactants
 
@@ -42,7 +40,7 @@ lacks_none m (p ∷ ps) s h k =
     (λ (z : (m p.species ≢ 0ℚ) × (is_zero_ℚ (m p.species) ≡ false)).
     ⊎_elim (λ (e : p.species ≡ s). subst (λ x. m x ≢ 0ℚ) e z.0)
     (λ (e : p.species ≢ s). lacks_none m ps s (sym (ap (λ b. b || lacks m ps) z.1) ∙ h) (subst (λ x. 0 < x) (count_of_other p ps s e) k))
-    (same_or_other p.species s))
+    (cases_eq p.species s))
     (is_zero_ℚ_cases (m p.species))
 
 module _ (net : Network) (ok : IsNetwork net) (r : ℕ) (low : 1 ≤ r) (high : r ≤ length net.reactions) (c : List ℚ) (state : IsState net c) where

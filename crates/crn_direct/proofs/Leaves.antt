@@ -2,8 +2,7 @@
 use Rattle.std.proofs.Common.{◌≡◌, ◌≢◌, ℕ, suc, Bool, true, false, cond, if◌then◌else◌, not, ◌+◌, ◌<◌, ◌≤◌, List, [], ◌∷◌, ◌++◌, map, length, take, drop, get_or, refl, sym, ◌∙◌, ap, ap₂, ⊎_elim, arith}
 use Rattle.std.specs.List.{All, zip}
 use Rattle.std.proofs.lemmas.List.Elements.{All-nil, All-cons, All-head, All-tail}
-use Rattle.crn_fraction.proofs.Order.{≤ℚ_or_<ℚ, ≤ℚ_antisymm}
-use Rattle.crn_fraction.proofs.Products.{is_zero_ℚ_cases}
+use Rattle.crn_fraction.proofs.Products.{is_zero_ℚ_cases, nonzero_of_is_zero_ℚ, positive_of_nonneg}
 use Rattle.crn_fraction.proofs.Ring.{zero-*ℚ, zero-+ℚ}
 use Rattle.crn_fraction.specs.Rational.{ℚ, 0ℚ, ◌+ℚ◌, ◌*ℚ◌, ◌≤ℚ◌, ◌<ℚ◌, is_zero_ℚ}
 use Rattle.crn_linear.specs.Forms.{at}
@@ -14,13 +13,6 @@ use Rattle.crn_direct.specs.Layout.{variables_from}
 -- the test of a coefficient
 pub zero_if : (q : ℚ) → is_zero_ℚ q ≡ true → q ≡ 0ℚ
 zero_if q e = ⊎_elim (λ c. c.0) (λ c. absurd (cc (c.1, e))) (is_zero_ℚ_cases q)
-
-pub other_if : (q : ℚ) → is_zero_ℚ q ≡ false → q ≢ 0ℚ
-other_if q e = ⊎_elim (λ c. absurd (cc (c.1, e))) (λ c. c.0) (is_zero_ℚ_cases q)
-
--- a number that is neither negative nor 0 is positive
-positive_if : (q : ℚ) → 0ℚ ≤ℚ q → q ≢ 0ℚ → 0ℚ <ℚ q
-positive_if q h other = ⊎_elim (λ l. absurd (other (≤ℚ_antisymm q 0ℚ l h))) (λ l. l) (≤ℚ_or_<ℚ q 0ℚ)
 
 -- there is a variable for each nonzero coefficient
 pub count_variables : (v : ℕ) (form : List ℚ) → length (variables_from v form) ≡ length (nonzero form)
@@ -41,11 +33,11 @@ rails_are (q ∷ qs) (c ∷ copies) l = ap (λ cs. c ∷ cs) (rails_are qs copie
 -- nonzero coefficients of a form without negative ones are positive
 nonzero_positive : (form : List ℚ) → All (λ c. 0ℚ ≤ℚ c) form → All (λ q. 0ℚ <ℚ q) (nonzero form)
 nonzero_positive [] h = All-nil (λ q. 0ℚ <ℚ q)
-nonzero_positive (q ∷ qs) h = step (is_zero_ℚ q) (other_if q) (nonzero_positive qs (All-tail (λ c. 0ℚ ≤ℚ c) q qs h))
+nonzero_positive (q ∷ qs) h = step (is_zero_ℚ q) (nonzero_of_is_zero_ℚ q) (nonzero_positive qs (All-tail (λ c. 0ℚ ≤ℚ c) q qs h))
   where
     step : (z : Bool) → (z ≡ false → q ≢ 0ℚ) → All (λ q. 0ℚ <ℚ q) (nonzero qs) → All (λ q. 0ℚ <ℚ q) (cond (not z) (q ∷ nonzero qs) (nonzero qs))
     step true other rest = rest
-    step false other rest = All-cons (λ q. 0ℚ <ℚ q) q (nonzero qs) (positive_if q (All-head (λ c. 0ℚ ≤ℚ c) q qs h) (other refl)) rest
+    step false other rest = All-cons (λ q. 0ℚ <ℚ q) q (nonzero qs) (positive_of_nonneg q (All-head (λ c. 0ℚ ≤ℚ c) q qs h) (other refl)) rest
 
 -- so are the factors of their terms
 positive_factors : (qs : List ℚ) (copies : List ℕ) → All (λ q. 0ℚ <ℚ q) qs → All (λ t. 0ℚ <ℚ t.0) (zip qs copies)

@@ -1,17 +1,11 @@
 -- Column by column: the variables of a form, and its terms on copies.
-use Rattle.std.proofs.Common.{◌≡◌, ◌≢◌, ℕ, suc, true, false, cond, if◌then◌else◌, not, ◌+◌, ◌<◌, ◌≤◌, List, [], ◌∷◌, ◌++◌, length, drop, drop-cons, get_or, sym, ◌∙◌, ap, ap₂, subst, ⊎_elim, arith, append_assoc, append-nil, length-drop, refl, add-one}
+use Rattle.std.proofs.Common.{◌≡◌, ◌≢◌, ℕ, suc, cond, if◌then◌else◌, not, ◌+◌, ◌<◌, ◌≤◌, List, [], ◌∷◌, ◌++◌, length, drop, drop-cons, get_or, sym, ◌∙◌, ap, ap₂, subst, arith, append_assoc, append-nil, length-drop, add-one}
 use Rattle.std.specs.List.{zip}
-use Rattle.crn_fraction.proofs.Products.{is_zero_ℚ_cases}
-use Rattle.crn_fraction.specs.Rational.{ℚ, 0ℚ, is_zero_ℚ}
+use Rattle.std.proofs.lemmas.List.{nil_from_length}
+use Rattle.crn_fraction.proofs.Products.{is_zero_ℚ-other, is_zero_ℚ-zero}
+use Rattle.crn_fraction.specs.Rational.{ℚ, 0ℚ}
 use Rattle.crn_gates.specs.Terms.{nonzero}
 use Rattle.crn_direct.specs.Layout.{variables_from, uses_of}
-
--- the test of a coefficient
-is_zero : (q : ℚ) → q ≡ 0ℚ → is_zero_ℚ q ≡ true
-is_zero q h = ⊎_elim (λ c. c.1) (λ c. absurd (c.0 h)) (is_zero_ℚ_cases q)
-
-is_other : (q : ℚ) → q ≢ 0ℚ → is_zero_ℚ q ≡ false
-is_other q h = ⊎_elim (λ c. absurd (h c.0)) (λ c. c.1) (is_zero_ℚ_cases q)
 
 module _ (form : List ℚ) (i : ℕ) (q : ℚ) (l : i < length form) (at_i : q ≡ get_or form i 0ℚ) where
   -- the coefficients from i on
@@ -25,7 +19,7 @@ module _ (form : List ℚ) (i : ℕ) (q : ℚ) (l : i < length form) (at_i : q �
   variables_stay now all e h =
       let next : i + 1 + 1 ≡ suc (i + 1) = omega arith in
       ap (λ v. now ++ variables_from v (drop (i + 1) form)) next
-      ∙ ap (λ b. now ++ (if b then variables_from (suc (i + 1)) (drop (i + 1) form) else (i + 1) ∷ variables_from (suc (i + 1)) (drop (i + 1) form))) (sym (is_zero q e))
+      ∙ ap (λ b. now ++ (if b then variables_from (suc (i + 1)) (drop (i + 1) form) else (i + 1) ∷ variables_from (suc (i + 1)) (drop (i + 1) form))) (sym (is_zero_ℚ-zero q e))
       ∙ ap (λ qs. now ++ variables_from (i + 1) qs) (sym here) ∙ h
 
   -- and one whose coefficient is not comes next
@@ -36,17 +30,17 @@ module _ (form : List ℚ) (i : ℕ) (q : ℚ) (l : i < length form) (at_i : q �
       ap (λ v. v ++ variables_from (i + 1 + 1) (drop (i + 1) form)) pushed
       ∙ append_assoc now ((i + 1) ∷ []) _
       ∙ ap (λ v. now ++ ((i + 1) ∷ variables_from v (drop (i + 1) form))) next
-      ∙ ap (λ b. now ++ (if b then variables_from (suc (i + 1)) (drop (i + 1) form) else (i + 1) ∷ variables_from (suc (i + 1)) (drop (i + 1) form))) (sym (is_other q e))
+      ∙ ap (λ b. now ++ (if b then variables_from (suc (i + 1)) (drop (i + 1) form) else (i + 1) ∷ variables_from (suc (i + 1)) (drop (i + 1) form))) (sym (is_zero_ℚ-other q e))
       ∙ ap (λ qs. now ++ variables_from (i + 1) qs) (sym here) ∙ h
 
   -- ---- terms
 
   -- the nonzero coefficients from i on
   nonzero_none : q ≡ 0ℚ → nonzero (drop i form) ≡ nonzero (drop (i + 1) form)
-  nonzero_none e = ap nonzero here ∙ ap (λ b. cond (not b) (q ∷ nonzero (drop (i + 1) form)) (nonzero (drop (i + 1) form))) (is_zero q e)
+  nonzero_none e = ap nonzero here ∙ ap (λ b. cond (not b) (q ∷ nonzero (drop (i + 1) form)) (nonzero (drop (i + 1) form))) (is_zero_ℚ-zero q e)
 
   nonzero_here : q ≢ 0ℚ → nonzero (drop i form) ≡ q ∷ nonzero (drop (i + 1) form)
-  nonzero_here e = ap nonzero here ∙ ap (λ b. cond (not b) (q ∷ nonzero (drop (i + 1) form)) (nonzero (drop (i + 1) form))) (is_other q e)
+  nonzero_here e = ap nonzero here ∙ ap (λ b. cond (not b) (q ∷ nonzero (drop (i + 1) form)) (nonzero (drop (i + 1) form))) (is_zero_ℚ-other q e)
 
   -- there is a copy for the next of them
   pub copy_left : (copies : List ℕ) → q ≢ 0ℚ → length (nonzero (drop i form)) ≤ length copies → length copies ≡ 0 → ⊥
@@ -88,11 +82,7 @@ left_as form i terms terms' all copies copies' rest e f left =
 
 -- after the last column nothing is left
 pub past : {X : Type 0} (xs : List X) (i : ℕ) → length xs ≤ i → drop i xs ≡ []
-past {X} xs i l = length_zero (drop i xs) (omega (arith, length-drop i xs))
-  where
-    length_zero : (xs : List X) → length xs ≡ 0 → xs ≡ []
-    length_zero [] e = refl
-    length_zero (x ∷ xs) e = absurd (omega arith)
+past {X} xs i l = nil_from_length (drop i xs) (omega (arith, length-drop i xs))
 
 pub variables_end : (form : List ℚ) (i v : ℕ) (now all : List ℕ) → length form ≤ i → now ++ variables_from v (drop i form) ≡ all → now ≡ all
 variables_end form i v now all l h = sym (append-nil now) ∙ ap (λ qs. now ++ variables_from v qs) (sym (past form i l)) ∙ h

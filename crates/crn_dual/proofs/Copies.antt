@@ -1,8 +1,9 @@
 -- The copies that a leaf takes: species one after another.
 use Rattle.std.proofs.Common.{◌≡◌, ◌≢◌, ℕ, zero, suc, ◌+◌, ◌<◌, ◌≤◌, ◌∙◌, arith}
 use Rattle.std.specs.List.{range_with_len}
-use Rattle.crn_gates.specs.Gates.{slot_species, AreAtMost}
+use Rattle.crn_gates.specs.Gates.{slot_species}
 use Rattle.crn_net.specs.Network.{IsApart, AreDifferent}
+use Rattle.crn_net.specs.Reactions.{AreAtMost}
 
 -- a species that is none of them
 pub copies_apart : (w a s : ℕ) → ((i : ℕ) → a ≤ i → i < a + w → s ≢ i) → IsApart s (range_with_len a w)

@@ -4,13 +4,15 @@ use Rattle.std.specs.List.{zip}
 use Rattle.std.proofs.lemmas.List.{drop-drop}
 use Rattle.crn_fraction.specs.Rational.{ℚ}
 use Rattle.crn_net.specs.Network.{Reaction, IsApart}
+use Rattle.crn_net.proofs.InputLists.{apart_left, apart_right}
+use Rattle.crn_net.specs.Reactions.{AreAtMost}
 use Rattle.crn_gates.specs.declared.Pair.{Pair}
 use Rattle.std.specs.Prelude.{Result, Ok, Err, IfOk, OnOk}
 use Rattle.crn_gates.specs.declared.BuildError.{BuildError}
 use Rattle.crn_gates.specs.Drafts.{Draft}
 use Rattle.crn_gates.specs.declared.Copied.{Copied}
 use Rattle.crn_gates.specs.declared.Copied.TheVariants.{Both, Single}
-use Rattle.crn_gates.specs.Gates.{Built, slot_species, stamped, AreAtMost, AreOperands, factor_of, width_of, leaf_table, scale_table, add_table, sub_table, min_table, max_table}
+use Rattle.crn_gates.specs.Gates.{Built, slot_species, stamped, factor_of, width_of, leaf_table, scale_table, add_table, sub_table, min_table, max_table}
 use Rattle.crn_gates.specs.Building.{IsSound, IsFree, AllFree, Stamps}
 use Rattle.crn_gates.specs.Pairs.{rails_of_pair, rails_of_pairs, rails_of_copies, rails_of_terms, operands_of, pair_after}
 use Rattle.crn_gates.specs.Calls.{AreAbove, Moves}
@@ -18,49 +20,24 @@ use Rattle.crn_gates.proofs.BuildingLaws.{free_low, leaf_stamps, add_stamps, sub
 use Rattle.crn_gates.proofs.Factors.{factor_is}
 use Rattle.crn_formula.specs.Formulas.{Formula, Lin, Add, Sub, Scale, Min, Max}
 use Rattle.crn_gates.specs.Terms.{nonzero}
+use Rattle.crn_gates.proofs.FreeRails.{AreApart, nothing_apart, AreApart-cons}
+use Rattle.crn_gates.proofs.GateCalls.{apart_above, operands_are, rails_width, slot_after}
 use Rattle.crn_dual.specs.OnCopies.{use_count, terms_on, Made, leaf_on, nodes_on, second_on}
 
 -- ---- lists of rails
 
--- each of ys is none of xs
-abbrev AreApart : List ℕ → List ℕ → Type 0
-AreApart [] xs = Unit {0}
-AreApart (y ∷ ys) xs = IsApart y xs × AreApart ys xs
-
-apart_none : (ys : List ℕ) → AreApart ys []
-apart_none [] = tt
-apart_none (y ∷ ys) = (tt, apart_none ys)
-
-apart_one_more : (x : ℕ) (ys xs : List ℕ) → IsApart x ys → AreApart ys xs → AreApart ys (x ∷ xs)
-apart_one_more x [] xs h k = tt
-apart_one_more x (y ∷ ys) xs h k = ((λ e. h.0 (sym e), k.0), apart_one_more x ys xs h.1 k.1)
-
--- a rail that is none of two lists one after the other
-apart_front : (s : ℕ) (xs ys : List ℕ) → IsApart s (xs ++ ys) → IsApart s xs
-apart_front s [] ys h = tt
-apart_front s (x ∷ xs) ys h = (h.0, apart_front s xs ys h.1)
-
-apart_back : (s : ℕ) (xs ys : List ℕ) → IsApart s (xs ++ ys) → IsApart s ys
-apart_back s [] ys h = h
-apart_back s (x ∷ xs) ys h = apart_back s xs ys h.1
-
 -- free rails in two lists one after the other
 free_front : (b : Built) (xs ys : List ℕ) → AllFree b (xs ++ ys) → AllFree b xs
 free_front b [] ys h = tt
-free_front b (x ∷ xs) ys h = (h.0, apart_front x xs ys h.1, free_front b xs ys h.2)
+free_front b (x ∷ xs) ys h = (h.0, apart_left x xs ys h.1, free_front b xs ys h.2)
 
 free_back : (b : Built) (xs ys : List ℕ) → AllFree b (xs ++ ys) → AllFree b ys
 free_back b [] ys h = h
 free_back b (x ∷ xs) ys h = free_back b xs ys h.2
 
 free_apart_lists : (b : Built) (xs ys : List ℕ) → AllFree b (xs ++ ys) → AreApart ys xs
-free_apart_lists b [] ys h = apart_none ys
-free_apart_lists b (x ∷ xs) ys h = apart_one_more x ys xs (apart_back x xs ys h.1) (free_apart_lists b xs ys h.2)
-
--- a rail above n is none of rails up to n
-apart_above : (n s : ℕ) (xs : List ℕ) → AreAtMost n xs → n < s → IsApart s xs
-apart_above n s [] h l = tt
-apart_above n s (x ∷ xs) h l = (omega (arith, h.0), apart_above n s xs h.1 l)
+free_apart_lists b [] ys h = nothing_apart ys
+free_apart_lists b (x ∷ xs) ys h = AreApart-cons x xs ys (apart_right x xs ys h.1) (free_apart_lists b xs ys h.2)
 
 -- rails up to n are none of a pair above n
 apart_low : (n p m : ℕ) (ys : List ℕ) → AreAtMost n ys → n < p → n < m → AreApart ys (p ∷ m ∷ [])
@@ -120,38 +97,19 @@ length-terms [] cs l = refl
 length-terms (q ∷ qs) [] l = absurd (omega arith)
 length-terms (q ∷ qs) (c ∷ cs) l = ap suc (length-terms qs cs (omega arith))
 
--- the operands of terms
-operands_are : (ts : List (ℚ × Copied)) → AreOperands (operands_of ts)
-operands_are [] = tt
-operands_are ((q, Both p) ∷ ts) = (factor_is q, operands_are ts)
-operands_are ((q, Single r) ∷ ts) = (factor_is q, operands_are ts)
-
-width-terms : (ts : List (ℚ × Copied)) → length (rails_of_terms ts) ≡ width_of (operands_of ts)
-width-terms [] = refl
-width-terms ((q, Both p) ∷ ts) = ap (λ n. suc (suc n)) (width-terms ts)
-width-terms ((q, Single r) ∷ ts) = ap suc (width-terms ts)
-
--- the slots past the operands
-slot_past : (xs : List ℕ) (n i : ℕ) → slot_species xs n (length xs + i) ≡ suc (n + i)
-slot_past [] n i = ap (λ j. suc (n + j)) (omega arith)
-slot_past (x ∷ xs) n i = ap (slot_species (x ∷ xs) n) (move (length xs) i) ∙ slot_past xs n i
-  where
-    move : (k i : ℕ) → suc k + i ≡ suc (k + i)
-    move k i = omega arith
-
 -- terms on free copies
 leaf_keeps : (qs : List ℚ) (cs : List Copied) (b : Built) → IsSound b → AllFree b (rails_of_copies cs) → length qs ≤ length cs → Keeps b cs (length qs) (leaf_on (zip qs cs) b)
 leaf_keeps qs cs b ok free enough =
     let xs : List ℕ = rails_of_terms (zip qs cs) in
     let later : List ℕ = rails_of_copies (drop (length (zip qs cs)) cs) in
     let both : AllFree b (xs ++ later) = subst (AllFree b) (split_rails qs cs) free in
-    let it : Stamps b xs 2 (width_of (operands_of (zip qs cs))) (suc (width_of (operands_of (zip qs cs)))) (leaf_table (operands_of (zip qs cs))) = leaf_stamps b xs (operands_of (zip qs cs)) (operands_are (zip qs cs)) (width-terms (zip qs cs)) ok (free_front b xs later both) in
+    let it : Stamps b xs 2 (width_of (operands_of (zip qs cs))) (suc (width_of (operands_of (zip qs cs)))) (leaf_table (operands_of (zip qs cs))) = leaf_stamps b xs (operands_of (zip qs cs)) (operands_are (zip qs cs)) (rails_width (zip qs cs)) ok (free_front b xs later both) in
     record {
       sound = it.sound;
       moves = record {
         made = stamped_pair b xs 2 _ _ _ (pair_after b.species) it (first, second);
         fresh = (omega arith, (omega arith, tt));
-        others = λ s f away. it.others s f (apart_front s xs later (subst (IsApart s) (split_rails qs cs) away));
+        others = λ s f away. it.others s f (apart_left s xs later (subst (IsApart s) (split_rails qs cs) away));
       };
       rest = subst (λ n. AllFree (stamped xs 2 (leaf_table (operands_of (zip qs cs))) b) (rails_of_copies (drop n cs))) (length-terms qs cs enough)
           (stay_free b (stamped xs 2 (leaf_table (operands_of (zip qs cs))) b) xs later (free_back b xs later both) (free_apart_lists b xs later both) it.others);
@@ -159,13 +117,13 @@ leaf_keeps qs cs b ok free enough =
   where
     first : slot_species (rails_of_terms (zip qs cs)) b.species (width_of (operands_of (zip qs cs))) ≡ suc b.species
     first =
-        let e : width_of (operands_of (zip qs cs)) ≡ length (rails_of_terms (zip qs cs)) + 0 = omega (arith, width-terms (zip qs cs)) in
-        ap (slot_species (rails_of_terms (zip qs cs)) b.species) e ∙ slot_past (rails_of_terms (zip qs cs)) b.species 0 ∙ omega arith
+        let e : width_of (operands_of (zip qs cs)) ≡ length (rails_of_terms (zip qs cs)) + 0 = omega (arith, rails_width (zip qs cs)) in
+        ap (slot_species (rails_of_terms (zip qs cs)) b.species) e ∙ slot_after (rails_of_terms (zip qs cs)) b.species 0 ∙ omega arith
 
     second : slot_species (rails_of_terms (zip qs cs)) b.species (suc (width_of (operands_of (zip qs cs)))) ≡ suc (suc b.species)
     second =
-        let e : suc (width_of (operands_of (zip qs cs))) ≡ length (rails_of_terms (zip qs cs)) + 1 = omega (arith, width-terms (zip qs cs)) in
-        ap (slot_species (rails_of_terms (zip qs cs)) b.species) e ∙ slot_past (rails_of_terms (zip qs cs)) b.species 1 ∙ omega arith
+        let e : suc (width_of (operands_of (zip qs cs))) ≡ length (rails_of_terms (zip qs cs)) + 1 = omega (arith, rails_width (zip qs cs)) in
+        ap (slot_species (rails_of_terms (zip qs cs)) b.species) e ∙ slot_after (rails_of_terms (zip qs cs)) b.species 1 ∙ omega arith
 
 -- ---- a gate of one pair
 

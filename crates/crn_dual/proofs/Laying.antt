@@ -5,19 +5,20 @@ use Rattle.std.proofs.lemmas.List.FromFn.{length-range_with_len}
 use Rattle.crn_fraction.proofs.Ring.{sub_ℚ-self, zero-+ℚ}
 use Rattle.crn_fraction.specs.Rational.{ℚ, 0ℚ, ◌+ℚ◌, ◌-ℚ◌, min_ℚ, max_ℚ}
 use Rattle.crn_net.specs.Network.{Reaction, IsApart, AreDifferent}
-use Rattle.crn_net.specs.Reactions.{EachTaken, EachGiven, FeedsForward, EachReaction}
+use Rattle.crn_net.specs.Reactions.{EachTaken, EachGiven, FeedsForward, EachReaction, AreAtMost}
 use Rattle.crn_net.specs.Totals.{made_by}
-use Rattle.crn_gates.specs.Gates.{slot_species, renamed, min_table, max_table, add_table, sub_table, scale_table, Factor, Operand, AreOperands, transfer, AreAtMost, times, width_of, Built, leaf_from, IsFactor, terms_at, IsTable, factor_of}
+use Rattle.crn_gates.specs.Gates.{slot_species, renamed, min_table, max_table, add_table, sub_table, scale_table, Factor, Operand, AreOperands, transfer, times, width_of, Built, leaf_from, IsFactor, terms_at, IsTable, factor_of}
 use Rattle.crn_gates.specs.Terms.{terms_of}
 use Rattle.crn_gates.proofs.Factors.{times_factor, factor_is}
 use Rattle.crn_gates.proofs.GateLaws.{slots_injective, transfer_makes}
 use Rattle.crn_gates.proofs.Lists.{EachGiven-append, EachReaction-append}
 use Rattle.crn_gates.proofs.Stamping.{EachTaken-map, EachTaken-append, made_by_left, stamped_feeds, stamped_same, stamped_makes, slot_new}
-use Rattle.crn_gates.proofs.Tables.{TableLaw, EachGiven-map, EachTaken-renamed, EachGiven-weaken, given_above, slot_high, AreAbove, slot_above, EachReaction-more, min_well, add_well, sub_well, max_well, min_is, add_is, sub_is, max_is, scale_is, leaf_is, add_law, sub_table_law, min_table_law, max_table_law}
+use Rattle.crn_gates.proofs.Tables.{TableLaw, EachGiven-map, EachTaken-renamed, EachGiven-weaken, given_above, slot_high, slot_above, EachReaction-more, min_well, add_well, sub_well, max_well, min_is, add_is, sub_is, max_is, scale_is, leaf_is, add_law, sub_table_law, min_table_law, max_table_law}
 use Rattle.crn_gates.proofs.Terms.{terms_over, terms_value}
 use Rattle.crn_gates.proofs.Transfers.{transfer_taken, transfer_given, transfer_well, leaf_takes, leaf_well, leaf_makes, terms_same}
 use Rattle.crn_formula.specs.Formulas.{Formula, Lin, Add, Sub, Scale, Min, Max, formula_value, IsOver}
 use Rattle.crn_gates.specs.Pairs.{rails_of_uses}
+use Rattle.crn_gates.specs.Calls.{AreAbove}
 use Rattle.crn_dual.specs.Layout.{uses_of_terms, uses_of, operands_of, rails_of, copy_count, Laid, gate, leaf, gate_of_one, gate_of_two, nodes}
 use Rattle.crn_dual.proofs.Copies.{copies_apart, copies_different, copies_low, copy_at}
 use Rattle.crn_dual.proofs.Leaves.{length-rails_of_terms, rails_of_uses-append, are_operands, HoldColumns, operands_value, form_value-at, AreCopied, copied_front, copied_back}

@@ -1,7 +1,6 @@
 -- What a leaf takes, term by term, and what its operands add up to.
-use Rattle.std.proofs.Common.{◌≡◌, ℕ, zero, suc, Bool, ◌+◌, ◌<◌, ◌≤◌, nat_lt, if◌then◌else◌, true, false, IsTrue, List, [], ◌∷◌, ◌++◌, length, get_or, refl, sym, ◌∙◌, ap, ap₂, subst, ⊎_elim, arith, length-append}
-use Rattle.std.proofs.lemmas.Bool.{false≢true}
-use Rattle.std.proofs.lemmas.Bool.Decides.{nat_tests}
+use Rattle.std.proofs.Common.{◌≡◌, ℕ, zero, suc, Bool, ◌+◌, ◌<◌, ◌≤◌, if◌then◌else◌, true, false, IsTrue, List, [], ◌∷◌, ◌++◌, length, get_or, refl, sym, ◌∙◌, ap, ap₂, subst, ⊎_elim, arith, length-append}
+use Rattle.std.proofs.lemmas.Bool.{false≢true, le-ltb, lt-ltb}
 use Rattle.crn_fraction.specs.Rational.{ℚ, ◌+ℚ◌, ◌-ℚ◌, ◌*ℚ◌}
 use Rattle.crn_linear.specs.Forms.{at}
 use Rattle.crn_net.specs.declared.Rails.TheVariants.{Dual}
@@ -17,17 +16,11 @@ use Rattle.crn_dual.specs.Layout.{use_of, operand_for, uses_of_terms, operands_o
 
 -- ---- the two sorts of columns
 
-is_below : (a b : ℕ) → a < b → nat_lt a b ≡ true
-is_below a b l = grind (arith, nat_tests)
-
-is_past : (a b : ℕ) → b ≤ a → nat_lt a b ≡ false
-is_past a b l = grind (arith, nat_tests)
-
 -- what holds of a variable's use, and of the context's, holds of a term's
 pub by_column : (k : ℕ) (t : Term) (P : Use → Type 0) → (t.variable < k → P (Variable (suc t.variable))) → (k ≤ t.variable → P Context) → P (use_of k t)
 by_column k t P f g =
-    ⊎_elim (λ (l : t.variable < k). subst (λ b. P (if b then Variable (suc t.variable) else Context)) (sym (is_below t.variable k l)) (f l))
-    (λ (l : k ≤ t.variable). subst (λ b. P (if b then Variable (suc t.variable) else Context)) (sym (is_past t.variable k l)) (g l)) (grind arith)
+    ⊎_elim (λ (l : t.variable < k). subst (λ b. P (if b then Variable (suc t.variable) else Context)) (sym (lt-ltb t.variable k l)) (f l))
+    (λ (l : k ≤ t.variable). subst (λ b. P (if b then Variable (suc t.variable) else Context)) (sym (le-ltb t.variable k l)) (g l)) (grind arith)
 
 -- ---- along the terms
 

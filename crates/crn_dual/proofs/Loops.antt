@@ -1,26 +1,15 @@
 -- Column by column: the terms of a leaf on its copies, and its uses.
-use Rattle.std.proofs.Common.{◌≡◌, ◌≢◌, ℕ, zero, suc, Bool, true, false, cond, if◌then◌else◌, not, ◌+◌, ◌<◌, ◌≤◌, List, [], ◌∷◌, ◌++◌, length, take, drop, get_or, refl, sym, ◌∙◌, ap, ap₂, subst, ⊎_elim, arith, append-nil, append_assoc, length-append, length-drop}
+use Rattle.std.proofs.Common.{◌≡◌, ◌≢◌, ℕ, zero, suc, Bool, true, false, cond, if◌then◌else◌, not, ◌+◌, ◌<◌, ◌≤◌, List, [], ◌∷◌, ◌++◌, length, take, drop, get_or, refl, sym, ◌∙◌, ap, ap₂, subst, arith, append-nil, append_assoc, length-append, length-drop}
 use Rattle.std.specs.List.{zip}
-use Rattle.std.proofs.lemmas.Bool.{false≢true}
 use Rattle.std.proofs.lemmas.List.{take-append-drop}
 use Rattle.std.proofs.lemmas.List.Elements.{filter-append, filter_more}
-use Rattle.crn_fraction.proofs.Products.{is_zero_ℚ_cases}
+use Rattle.crn_fraction.proofs.Products.{is_zero_ℚ-other, is_zero_ℚ-zero, nonzero_of_is_zero_ℚ}
 use Rattle.crn_fraction.specs.Rational.{ℚ, 0ℚ, is_zero_ℚ}
 use Rattle.crn_gates.specs.declared.Copied.{Copied}
 use Rattle.crn_gates.specs.declared.Use.{Use}
 use Rattle.crn_gates.specs.Gates.{factor_of}
 use Rattle.crn_gates.specs.Terms.{terms_from, terms_of, nonzero}
 use Rattle.crn_dual.specs.Layout.{use_of_column, uses_of_terms}
-
--- the test of a coefficient
-is_nonzero : (q : ℚ) → q ≢ 0ℚ → is_zero_ℚ q ≡ false
-is_nonzero q h = ⊎_elim (λ c. absurd (h c.0)) (λ c. c.1) (is_zero_ℚ_cases q)
-
-is_zero : (q : ℚ) → q ≡ 0ℚ → is_zero_ℚ q ≡ true
-is_zero q h = ⊎_elim (λ c. c.1) (λ c. absurd (c.0 h)) (is_zero_ℚ_cases q)
-
-nonzero_if : (q : ℚ) → is_zero_ℚ q ≡ false → q ≢ 0ℚ
-nonzero_if q e h = false≢true (sym e ∙ is_zero q h)
 
 -- ---- the terms of a leaf
 
@@ -29,14 +18,14 @@ nonzero_more : (form : List ℚ) (i : ℕ) (q : ℚ) → i < length form → q �
 nonzero_more form i q l e h =
     filter_more (λ x. not (is_zero_ℚ x)) form i 0ℚ l
     ∙ ap (λ x. nonzero (take i form) ++ cond (not (is_zero_ℚ x)) (x ∷ []) []) (sym e)
-    ∙ ap (λ b. nonzero (take i form) ++ cond (not b) (q ∷ []) []) (is_nonzero q h)
+    ∙ ap (λ b. nonzero (take i form) ++ cond (not b) (q ∷ []) []) (is_zero_ℚ-other q h)
 
 -- one more that is 0
 nonzero_same : (form : List ℚ) (i : ℕ) (q : ℚ) → i < length form → q ≡ get_or form i 0ℚ → q ≡ 0ℚ → nonzero (take (i + 1) form) ≡ nonzero (take i form)
 nonzero_same form i q l e h =
     filter_more (λ x. not (is_zero_ℚ x)) form i 0ℚ l
     ∙ ap (λ x. nonzero (take i form) ++ cond (not (is_zero_ℚ x)) (x ∷ []) []) (sym e)
-    ∙ ap (λ b. nonzero (take i form) ++ cond (not b) (q ∷ []) []) (is_zero q h)
+    ∙ ap (λ b. nonzero (take i form) ++ cond (not b) (q ∷ []) []) (is_zero_ℚ-zero q h)
     ∙ append-nil (nonzero (take i form))
 
 -- the next copy goes with the next coefficient
@@ -105,7 +94,7 @@ pub uses_step : (k : ℕ) (form : List ℚ) (i : ℕ) (q : ℚ) (before now now'
 uses_step k form i q before now now' u l e h is so pushed =
     pushed ∙ ap₂ (λ xs (x : Use). xs ++ x ∷ []) so (is ∙ ap (use_of_column k) (from_zero i))
     ∙ append_assoc before (uses_of_terms k (terms_of (take i form))) (use_of_column k (0 + i) ∷ [])
-    ∙ ap (λ us. before ++ us) (ap (λ b. uses_of_terms k (terms_of (take i form)) ++ (if b then [] else use_of_column k (0 + i) ∷ [])) (sym (is_nonzero (get_or form i 0ℚ) (λ z. h (e ∙ z))))
+    ∙ ap (λ us. before ++ us) (ap (λ b. uses_of_terms k (terms_of (take i form)) ++ (if b then [] else use_of_column k (0 + i) ∷ [])) (sym (is_zero_ℚ-other (get_or form i 0ℚ) (λ z. h (e ∙ z))))
     ∙ sym (uses_more k 0 form i l) ∙ ap (λ j. uses_of_terms k (terms_of (take j form))) (next i))
   where
     from_zero : (i : ℕ) → i ≡ 0 + i
@@ -119,7 +108,7 @@ pub uses_stay : (k : ℕ) (form : List ℚ) (i : ℕ) (q : ℚ) (before now : Li
     now ≡ before ++ uses_of_terms k (terms_of (take i form)) → now ≡ before ++ uses_of_terms k (terms_of (take (i + 1) form))
 uses_stay k form i q before now l e h so =
     so ∙ ap (λ us. before ++ us) (sym (append-nil (uses_of_terms k (terms_of (take i form))))
-    ∙ ap (λ b. uses_of_terms k (terms_of (take i form)) ++ (if b then [] else use_of_column k (0 + i) ∷ [])) (sym (is_zero (get_or form i 0ℚ) (sym e ∙ h)))
+    ∙ ap (λ b. uses_of_terms k (terms_of (take i form)) ++ (if b then [] else use_of_column k (0 + i) ∷ [])) (sym (is_zero_ℚ-zero (get_or form i 0ℚ) (sym e ∙ h)))
     ∙ sym (uses_more k 0 form i l) ∙ ap (λ j. uses_of_terms k (terms_of (take j form))) (next i))
   where
     next : (i : ℕ) → suc i ≡ i + 1
@@ -133,7 +122,7 @@ factors_pass form cs ts is k d l = subst (λ (xs : List (ℚ × Copied)). (get_o
   where
     passes : (form : List ℚ) (cs : List Copied) (k : ℕ) (d : ℚ × Copied) → k < length (zip (nonzero form) cs) → (get_or (zip (nonzero form) cs) k d).0 ≢ 0ℚ
     passes [] cs k d l = absurd (omega arith)
-    passes (q ∷ form) cs k d l = step (λ cs k d l. passes form cs k d l) (is_zero_ℚ q) (nonzero_if q) cs k d l
+    passes (q ∷ form) cs k d l = step (λ cs k d l. passes form cs k d l) (is_zero_ℚ q) (nonzero_of_is_zero_ℚ q) cs k d l
       where
         step : ((cs : List Copied) (k : ℕ) (d : ℚ × Copied) → k < length (zip (nonzero form) cs) → (get_or (zip (nonzero form) cs) k d).0 ≢ 0ℚ) → (z : Bool) → (z ≡ false → q ≢ 0ℚ) →
             (cs : List Copied) (k : ℕ) (d : ℚ × Copied) → k < length (zip (cond (not z) (q ∷ nonzero form) (nonzero form)) cs) → (get_or (zip (cond (not z) (q ∷ nonzero form) (nonzero form)) cs) k d).0 ≢ 0ℚ

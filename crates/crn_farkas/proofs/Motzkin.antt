@@ -1,16 +1,17 @@
 -- A certificate excludes every point: the easy direction of Motzkin's transposition theorem. The multiples of the rows add up to the
 -- zero row, whose value is 0 at each point. At a point that met the system their values would add up to more than 0.
-use Rattle.std.proofs.Common.{◌≡◌, ◌⊎◌, ⊎_elim, ℕ, zero, suc, ◌<◌, ◌≤◌, Bool, true, false, List, [], ◌∷◌, length, get_or, refl, sym, ap, ◌∙◌, subst, arith}
+use Rattle.std.proofs.Common.{◌≡◌, ⊎_elim, ℕ, zero, suc, ◌≤◌, Bool, true, false, List, [], ◌∷◌, length, get_or, refl, sym, ap, ◌∙◌, subst, arith}
 use Rattle.std.specs.Prelude.{ℤ, pos, ◌+ℤ◌, ◌*ℤ◌, ◌<ℤ◌, ◌≤ℤ◌, ◌↔◌, IsTrue}
 use Rattle.std.specs.List.{All}
 use Rattle.std.proofs.lemmas.Int.{ints}
 use Rattle.std.proofs.lemmas.List.{get_or_past}
 use Rattle.std.proofs.lemmas.List.Elements.{All-head, All-tail}
+use Rattle.std.proofs.lemmas.Bool.{cases_lt, false≢true}
 use Rattle.crn_fraction.specs.Rational.{ℚ, whole, ◌+ℚ◌, ◌*ℚ◌, ◌≤ℚ◌, ◌<ℚ◌}
 use Rattle.crn_fraction.proofs.Ratios.{by_common_2, over-whole}
-use Rattle.crn_fraction.proofs.Order.{linear, over-<ℚ, over-≤ℚ, ≤ℚ_refl, ≤ℚ_of_<ℚ}
+use Rattle.crn_fraction.proofs.Order.{linear, over-≤ℚ, ≤ℚ_refl, ≤ℚ_of_<ℚ}
 use Rattle.crn_fraction.proofs.Linear.{<ℚ_irrefl}
-use Rattle.crn_fraction.proofs.Products.{*ℚ-nonneg, *ℚ-positive}
+use Rattle.crn_fraction.proofs.Products.{*ℚ-nonneg, *ℚ-positive, whole-positive}
 use Rattle.crn_fraction.proofs.Ring.{ring_ℚ, q-writes}
 use Rattle.crn_linear.specs.Forms.{wholes}
 use Rattle.crn_linear.specs.Rows.{Row, dot, value, IsBelow, Meets}
@@ -19,7 +20,7 @@ use Rattle.crn_farkas.specs.Mixtures.{mixed}
 use Rattle.crn_farkas.specs.Systems.{System, IsRectangular, IsPoint, IsWholePoint, HasNoPoint, IsCertificate, column, no_row}
 use Rattle.crn_farkas.proofs.Mixing.{value-mixed, get_or-mixed, value-zeros}
 
-abbrev IsNonnegative : ℤ → Type 0
+abbrev pub IsNonnegative : ℤ → Type 0
 IsNonnegative m = pos 0 ≤ℤ m
 
 -- the sum of the multiples of the rows
@@ -73,19 +74,13 @@ sum_right = by_common_2 (λ a b. whole (pos 0) ≤ℚ a → whole (pos 0) <ℚ b
 whole_nonneg : (m : ℤ) → pos 0 ≤ℤ m → whole (pos 0) ≤ℚ whole m
 whole_nonneg m h = (over-≤ℚ (pos 0) 1 m (omega arith)).1 h
 
-whole_positive : (m : ℤ) → pos 0 <ℤ m → whole (pos 0) <ℚ whole m
-whole_positive m h = (over-<ℚ (pos 0) 1 m (omega arith)).1 h
-
-at_least : (s : Bool) (a b : ℚ) → IsBelow s a b → a ≤ℚ b
+pub at_least : (s : Bool) (a b : ℚ) → IsBelow s a b → a ≤ℚ b
 at_least true a b h = ≤ℚ_of_<ℚ a b h
 at_least false a b h = h
 
 above : (s : Bool) (a b : ℚ) → IsTrue s → IsBelow s a b → a <ℚ b
 above true a b t h = h
-above false a b t h = absurd (differ t)
-  where
-    differ : false ≡ true → ⊥
-    differ e = cc
+above false a b t h = absurd (false≢true t)
 
 weighted_nonneg : (ms : List ℤ) (rows : List Row) (x : List ℚ) → All IsNonnegative ms → All (λ r. Meets r x) rows → whole (pos 0) ≤ℚ weighted ms rows x
 unfolding weighted
@@ -100,13 +95,10 @@ weighted_positive : (ms : List ℤ) (rows : List Row) (x : List ℚ) (i : ℕ) �
     → All IsNonnegative ms → All (λ r. Meets r x) rows → whole (pos 0) <ℚ weighted ms rows x
 unfolding weighted
 weighted_positive [] rows x i t p h k = absurd (omega (arith, ints, p))
-weighted_positive (m ∷ ms) [] x i t p h k = absurd (differ t)
-  where
-    differ : false ≡ true → ⊥
-    differ e = cc
+weighted_positive (m ∷ ms) [] x i t p h k = absurd (false≢true t)
 weighted_positive (m ∷ ms) (r ∷ rows) x zero t p h k =
     sum_left (whole m *ℚ value r.entries x) (weighted ms rows x)
-    (*ℚ-positive (whole m) (value r.entries x) (whole_positive m p) (above r.strict (whole (pos 0)) (value r.entries x) t (All-head (λ r. Meets r x) r rows k)))
+    (*ℚ-positive (whole m) (value r.entries x) (whole-positive m p) (above r.strict (whole (pos 0)) (value r.entries x) t (All-head (λ r. Meets r x) r rows k)))
     (weighted_nonneg ms rows x (All-tail IsNonnegative m ms h) (All-tail (λ r. Meets r x) r rows k))
 weighted_positive (m ∷ ms) (r ∷ rows) x (suc i) t p h k =
     sum_right (whole m *ℚ value r.entries x) (weighted ms rows x)
@@ -114,13 +106,11 @@ weighted_positive (m ∷ ms) (r ∷ rows) x (suc i) t p h k =
     (weighted_positive ms rows x i t p (All-tail IsNonnegative m ms h) (All-tail (λ r. Meets r x) r rows k))
 
 -- ---- no point
-below_or_past : (v n : ℕ) → (v < n) ⊎ (n ≤ v)
-below_or_past v n = grind arith
 
 no_rational_point : (s : System) (c : List ℤ) (x : List ℚ) → IsRectangular s → IsCertificate s c → ¬ IsPoint s x
 no_rational_point s c x even cert point =
     let zeros : (v : ℕ) → get_or (combination c s.rows) v (pos 0) ≡ pos 0 =
-    λ v. get_or-combination c s.rows v ∙ ⊎_elim (λ b. cert.zero_sum v b) (λ b. dot-past s.columns v c s.rows even.lengths b) (below_or_past v s.columns) in
+    λ v. get_or-combination c s.rows v ∙ ⊎_elim (λ b. cert.zero_sum v b) (λ b. dot-past s.columns v c s.rows even.lengths b) (cases_lt v s.columns) in
     let none : weighted c s.rows x ≡ whole (pos 0) = sym (value-combination c s.rows x) ∙ value-zeros (combination c s.rows) x zeros in
     let some = weighted_positive c s.rows x cert.some_strict.0 cert.some_strict.1 cert.some_strict.2 cert.nonnegative point in
     <ℚ_irrefl (whole (pos 0)) (subst (λ t. whole (pos 0) <ℚ t) none some)

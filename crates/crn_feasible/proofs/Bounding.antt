@@ -6,7 +6,8 @@ use Rattle.std.proofs.lemmas.Int.{ints}
 use Rattle.std.proofs.Math.Nat.{div-mul_cancel}
 use Rattle.crn_fraction.specs.Rational.{ℚ, ratio, whole, neg_ℚ, ◌+ℚ◌, ◌*ℚ◌, ◌/ℚ◌}
 use Rattle.crn_fraction.specs.Parts.{ratio_self}
-use Rattle.crn_fraction.proofs.Ratios.{over-+ℚ, over-whole-*ℚ, over-whole, neg_ℚ-ratio}
+use Rattle.crn_fraction.proofs.Ratios.{over-+ℚ, over-whole-*ℚ, neg_ℚ-ratio, zero_over}
+use Rattle.crn_fraction.specs.Gcd.{factor_positive}
 use Rattle.crn_linear.specs.Forms.{entry_of}
 use Rattle.crn_linear.specs.Rows.{dot, value}
 use Rattle.crn_linear.specs.Cleared.{common_den, numerator_over}
@@ -20,15 +21,8 @@ q_over d q p h =
     let f = d / q.den in
     let back : f * q.den ≡ d = div-mul_cancel q.den h in
     let same : q.den * f ≡ d = (let e : q.den * f ≡ f * q.den = omega arith in e) ∙ back in
-    let some : 0 < f = above f q.den d back p in
+    let some : 0 < f = factor_positive f q.den d back p in
     sym (ratio_self q) ∙ ratio-spread q.num q.den f q.lowest.positive some ∙ ap (ratio (numerator_over d q)) same
-  where
-    above : (f e d : ℕ) → f * e ≡ d → 0 < d → 0 < f
-    above zero e d h p = absurd (omega (arith, h))
-    above (suc f) e d h p = omega arith
-
-zero_over : (d : ℕ) → 0 < d → whole (pos 0) ≡ ratio (pos 0) d
-zero_over d p = over-whole (pos 0) d p ∙ ap (λ t. ratio t d) (let z : pos 0 *ℤ pos d ≡ pos 0 = omega (arith, ints) in z)
 
 value_over : (r : List ℤ) (qs : List ℚ) (d : ℕ) → 0 < d → ((i : ℕ) → i < length qs → (entry_of qs i).den ∣ d) → value r qs ≡ ratio (dot r (numerators_over d qs)) d
 value_over [] qs d p h = zero_over d p

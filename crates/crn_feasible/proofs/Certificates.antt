@@ -1,5 +1,5 @@
 -- The certificate that elimination answers is one.
-use Rattle.std.proofs.Common.{◌≡◌, ⊎_elim, ℕ, zero, suc, ◌*◌, ◌<◌, Bool, true, false, cond, List, [], ◌∷◌, ◌++◌, length, get_or, map, Result, Ok, Err, refl, sym, ap, ap₂, ◌∙◌, subst, arith, append_assoc}
+use Rattle.std.proofs.Common.{◌≡◌, ⊎_elim, ℕ, zero, suc, ◌<◌, Bool, true, false, cond, List, [], ◌∷◌, ◌++◌, length, get_or, map, Result, Ok, Err, refl, sym, ap, ap₂, ◌∙◌, subst, arith, append_assoc}
 use Rattle.std.specs.Prelude.{ℤ, pos, negsuc, neg_ℤ, ◌+ℤ◌, ◌*ℤ◌, ◌<ℤ◌, ◌≤ℤ◌, int_div, replicate, IsTrue}
 use Rattle.std.specs.List.{All}
 use Rattle.std.proofs.Math.Nat.{eq-zero-or-pos}
@@ -8,24 +8,24 @@ use Rattle.std.proofs.lemmas.List.Elements.{All-nil, All-cons}
 use Rattle.crn_fraction.specs.Rational.{ℚ}
 use Rattle.crn_fraction.proofs.Core.{cancel_ℤ}
 use Rattle.crn_fraction.proofs.Integers.{ring_ℤ, z-writes}
+use Rattle.crn_fraction.proofs.Products.{nonneg_times, positive_times}
 use Rattle.crn_linear.specs.Rows.{Row, dot}
 use Rattle.crn_farkas.specs.Systems.{System, IsCertificate, column, no_row}
 use Rattle.crn_feasible.specs.Elimination.{Stop, refuted, passes, Kept, after, over, reduced, divisor, is_zero, take_row, take_rows, entry, combined, without, numerators_over, next, coordinates, unit, started, elimination}
 use Rattle.crn_farkas.specs.Mixtures.{mixed}
 use Rattle.crn_linear.specs.Cleared.{common_den}
+use Rattle.crn_linear.proofs.Sums.{dot-zeros}
 use Rattle.crn_feasible.proofs.Divisors.{Divides, Divides-common, Divides-right, over-back}
 use Rattle.crn_farkas.proofs.Mixing.{dot-times, dot-mixed, get_or-times, get_or-mixed}
+use Rattle.crn_farkas.proofs.Motzkin.{IsNonnegative}
 use Rattle.crn_feasible.proofs.Orders.{Each, Each-weaker}
 use Rattle.crn_feasible.proofs.Taking.{after-err, taken_refuted, rows_kept, zeros_from_test, divisor_pos, Divides-entries, zeros_by_divisor}
 use Rattle.crn_feasible.proofs.Points.{Each-without}
 
-abbrev IsNonneg : ℤ → Type 0
-IsNonneg m = pos 0 ≤ℤ m
-
 -- row k is the sum of its multiples of the rows
 pub record IsMade (rows : List Row) (k : Kept) : Type 0 where
   pub one_each : length k.multipliers ≡ length rows
-  pub nonneg : Each IsNonneg k.multipliers
+  pub nonneg : Each IsNonnegative k.multipliers
   pub sums : (v : ℕ) → dot k.multipliers (column v rows) ≡ get_or k.row.entries v (pos 0)
   pub some_strict : k.row.strict ≡ true → (i : ℕ) × IsTrue (get_or rows i no_row).strict × (pos 0 <ℤ get_or k.multipliers i (pos 0))
 
@@ -38,11 +38,11 @@ nonneg_div : (x : ℤ) (g : ℕ) → pos 0 ≤ℤ x → pos 0 ≤ℤ int_div x (
 nonneg_div (pos a) g h = omega (arith, ints)
 nonneg_div (negsuc a) g h = absurd (omega (arith, ints))
 
-nonneg_over : (g : ℕ) (xs : List ℤ) → Each IsNonneg xs → Each IsNonneg (over g xs)
+nonneg_over : (g : ℕ) (xs : List ℤ) → Each IsNonnegative xs → Each IsNonnegative (over g xs)
 nonneg_over g [] h = tt
 nonneg_over g (x ∷ xs) h = (nonneg_div x g h.0, nonneg_over g xs h.1)
 
-pub nonneg_at : (xs : List ℤ) (i : ℕ) → Each IsNonneg xs → pos 0 ≤ℤ get_or xs i (pos 0)
+pub nonneg_at : (xs : List ℤ) (i : ℕ) → Each IsNonnegative xs → pos 0 ≤ℤ get_or xs i (pos 0)
 nonneg_at [] i h = omega (arith, ints)
 nonneg_at (x ∷ xs) zero h = h.0
 nonneg_at (x ∷ xs) (suc i) h = nonneg_at xs i h.1
@@ -108,24 +108,11 @@ length-mixed a (x ∷ xs) b (y ∷ ys) zero h k = absurd (omega (arith, h))
 length-mixed a (x ∷ xs) b (y ∷ ys) (suc n) h k =
     ap suc (length-mixed a xs b ys n (omega (arith, h)) (omega (arith, k)))
 
-nonneg_times : (x y : ℤ) → pos 0 ≤ℤ x → pos 0 ≤ℤ y → pos 0 ≤ℤ (x *ℤ y)
-nonneg_times (pos a) (pos b) h k = omega (arith, ints)
-nonneg_times (pos a) (negsuc b) h k = absurd (omega (arith, ints))
-nonneg_times (negsuc a) y h k = absurd (omega (arith, ints))
-
-positive_times : (x y : ℤ) → pos 0 <ℤ x → pos 0 <ℤ y → pos 0 <ℤ (x *ℤ y)
-positive_times (pos a) (pos b) h k = let l = nat_times a b (omega (arith, ints)) (omega (arith, ints)) in omega (arith, ints)
-  where
-    nat_times : (a b : ℕ) → 0 < a → 0 < b → 0 < a * b
-    nat_times a b h k = grind arith
-positive_times (pos a) (negsuc b) h k = absurd (omega (arith, ints))
-positive_times (negsuc a) y h k = absurd (omega (arith, ints))
-
-nonneg_map : (a : ℤ) (xs : List ℤ) → pos 0 ≤ℤ a → Each IsNonneg xs → Each IsNonneg (map (λ x. a *ℤ x) xs)
+nonneg_map : (a : ℤ) (xs : List ℤ) → pos 0 ≤ℤ a → Each IsNonnegative xs → Each IsNonnegative (map (λ x. a *ℤ x) xs)
 nonneg_map a [] h k = tt
 nonneg_map a (x ∷ xs) h k = (nonneg_times a x h k.0, nonneg_map a xs h k.1)
 
-nonneg_mixed : (a : ℤ) (xs : List ℤ) (b : ℤ) (ys : List ℤ) → pos 0 ≤ℤ a → pos 0 ≤ℤ b → Each IsNonneg xs → Each IsNonneg ys → Each IsNonneg (mixed a xs b ys)
+nonneg_mixed : (a : ℤ) (xs : List ℤ) (b : ℤ) (ys : List ℤ) → pos 0 ≤ℤ a → pos 0 ≤ℤ b → Each IsNonnegative xs → Each IsNonnegative ys → Each IsNonnegative (mixed a xs b ys)
 nonneg_mixed a [] b ys ha hb h k = nonneg_map b ys hb k
 nonneg_mixed a (x ∷ xs) b [] ha hb h k = nonneg_map a (x ∷ xs) ha h
 nonneg_mixed a (x ∷ xs) b (y ∷ ys) ha hb h k =
@@ -169,10 +156,6 @@ without_made rows v ks h =
     (λ p n hp hn mp mn. combined_made rows v p n (omega (arith, ints, hp)) (omega (arith, ints, hn)) mp mn) h
 
 -- ---- the first rows
-dot-zeros : (n : ℕ) (xs : List ℤ) → dot (replicate n (pos 0)) xs ≡ pos 0
-dot-zeros zero xs = refl
-dot-zeros (suc n) [] = refl
-dot-zeros (suc n) (x ∷ xs) = rw (dot-zeros n xs) (omega (arith, ints))
 
 dot-unit : (v : ℕ) (before : List Row) (r : Row) (rest : List Row)
     → dot (unit (length before) (length rest)) (column v (before ++ r ∷ rest)) ≡ get_or r.entries v (pos 0)
@@ -187,11 +170,11 @@ length-unit : (before : List Row) (r : Row) (rest : List Row) → length (unit (
 length-unit [] r rest = ap suc (length-replicate' (length rest))
 length-unit (b ∷ before) r rest = ap suc (length-unit before r rest)
 
-nonneg_zeros : (n : ℕ) → Each IsNonneg (replicate n (pos 0))
+nonneg_zeros : (n : ℕ) → Each IsNonnegative (replicate n (pos 0))
 nonneg_zeros zero = tt
 nonneg_zeros (suc n) = (omega (arith, ints), nonneg_zeros n)
 
-nonneg_unit : (before : List Row) (n : ℕ) → Each IsNonneg (unit (length before) n)
+nonneg_unit : (before : List Row) (n : ℕ) → Each IsNonnegative (unit (length before) n)
 nonneg_unit [] n = (omega (arith, ints), nonneg_zeros n)
 nonneg_unit (b ∷ before) n = (omega (arith, ints), nonneg_unit before n)
 
@@ -228,9 +211,9 @@ started_made before (r ∷ rest) = (
 )
 
 -- ---- the certificate
-to_All : (xs : List ℤ) → Each IsNonneg xs → All IsNonneg xs
-to_All [] h = All-nil IsNonneg
-to_All (x ∷ xs) h = All-cons IsNonneg x xs h.0 (to_All xs h.1)
+to_All : (xs : List ℤ) → Each IsNonnegative xs → All IsNonnegative xs
+to_All [] h = All-nil IsNonnegative
+to_All (x ∷ xs) h = All-cons IsNonnegative x xs h.0 (to_All xs h.1)
 
 strict_same : (k : Kept) → (reduced k).row.strict ≡ true → k.row.strict ≡ true
 unfolding reduced

@@ -5,27 +5,25 @@ use Rattle.std.specs.List.{filter, flat_map}
 use Rattle.std.specs.Ordering.{int_eq}
 use Rattle.std.proofs.lemmas.Int.{ints}
 use Rattle.std.proofs.lemmas.Bool.Decides.{Decides-int_eq}
+use Rattle.std.proofs.lemmas.Bool.{false≢true}
 use Rattle.crn_fraction.specs.Rational.{ℚ, whole, neg_ℚ, ◌+ℚ◌, ◌-ℚ◌, ◌*ℚ◌, ◌<ℚ◌}
 use Rattle.crn_fraction.proofs.Ring.{ring_ℚ, q-writes}
 use Rattle.crn_fraction.proofs.Ratios.{neg_ℚ-ratio}
 use Rattle.crn_fraction.proofs.Order.{over-same}
-use Rattle.crn_fraction.proofs.Products.{*ℚ-/ℚ, *ℚ-positive}
+use Rattle.crn_fraction.proofs.Products.{*ℚ-/ℚ, *ℚ-positive, whole-positive}
 use Rattle.crn_linear.specs.Rows.{IsBelow, value}
 use Rattle.crn_feasible.specs.Elimination.{Kept, entry, zeros, positives, negatives, combined, without, bound, between}
 use Rattle.crn_farkas.specs.Mixtures.{mixed}
 use Rattle.crn_feasible.proofs.Divisors.{value-push}
 use Rattle.crn_farkas.proofs.Mixing.{value-mixed}
-use Rattle.crn_feasible.proofs.Orders.{Each, whole-positive, positive_times, positive_of_times, IsBelow-difference}
+use Rattle.crn_feasible.proofs.Orders.{Each, positive_times, positive_of_times, IsBelow-difference}
 use Rattle.crn_feasible.proofs.Between.{Pair, between_keeps, Each-both, Each-from_map}
 use Rattle.crn_feasible.proofs.Taking.{Met, Each-left, Each-right}
 
 -- ---- filters
 unfilter_by : {A : Type 0} (P R : A → Type 0) (x : A) (xs kept : List A) (b : Bool) → (Each P kept → Each R xs) → Each P (cond b (x ∷ kept) kept) → (b ≡ true → P x) × Each R xs
 unfilter_by P R x xs kept true f h = (λ e. h.0, f h.1)
-unfilter_by P R x xs kept false f h = (λ (e : false ≡ true). absurd (differ e), f h)
-  where
-    differ : false ≡ true → ⊥
-    differ e = cc
+unfilter_by P R x xs kept false f h = (λ (e : false ≡ true). absurd (false≢true e), f h)
 
 pub Each-unfilter : {A : Type 0} (P : A → Type 0) (test : A → Bool) (xs : List A) → Each P (filter test xs) → Each (λ x. test x ≡ true → P x) xs
 Each-unfilter P test [] h = tt
@@ -47,9 +45,6 @@ Each-filter P test (x ∷ xs) h = passes_by P x (filter test xs) (test x) (λ e.
 pub Each-flat_map : {A B : Type 0} (P : B → Type 0) (f : A → List B) (xs : List A) → Each P (flat_map f xs) → Each (λ x. Each P (f x)) xs
 Each-flat_map P f [] h = tt
 Each-flat_map P f (x ∷ xs) h = (Each-left P (f x) (flat_map f xs) h, Each-flat_map P f xs (Each-right P (f x) (flat_map f xs) h))
-
-pub Each-both-within : {A : Type 0} (P Q R : A → Type 0) → ((x : A) → P x → Q x → R x) → (xs : List A) → Each P xs → Each Q xs → Each R xs
-Each-both-within P Q R f xs h k = Each-both P Q R f xs h k
 
 -- ---- arithmetic
 back : (w p a : ℚ) → w *ℚ a ≡ neg_ℚ p → p ≡ neg_ℚ (w *ℚ a)

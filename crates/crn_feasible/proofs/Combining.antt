@@ -1,10 +1,12 @@
 -- A combination of two rows over its divisor, by its entries and its multipliers with their places.
-use Rattle.std.proofs.Common.{◌≡◌, ℕ, ◌+◌, ◌-◌, ◌≤◌, Bool, true, false, ◌&&◌, List, [], ◌∷◌, ◌++◌, length, map, take, Err, refl, sym, ap, ap₂, ◌∙◌, subst, arith}
+use Rattle.std.proofs.Common.{◌≡◌, ℕ, ◌+◌, ◌-◌, ◌≤◌, true, false, ◌&&◌, List, ◌++◌, length, map, take, Err, refl, sym, ap, ap₂, ◌∙◌, subst, arith}
 use Rattle.std.specs.Prelude.{ℤ, pos, unsigned_abs, replicate}
 use Rattle.std.specs.List.{fold, list_all}
 use Rattle.std.proofs.Math.Seq.{take-append_seam}
 use Rattle.std.proofs.lemmas.List.Folds.{list_all-append}
 use Rattle.std.proofs.lemmas.List.{length-append, length-replicate, length-take-le}
+use Rattle.std.proofs.lemmas.Bool.{and_right}
+use Rattle.std.proofs.lemmas.List.Sums.{fold-append}
 use Rattle.crn_fraction.specs.Gcd.{gcd}
 use Rattle.crn_fraction.proofs.Euclid.{gcd_end}
 use Rattle.crn_linear.specs.Rows.{AreSmall}
@@ -19,10 +21,6 @@ use Rattle.crn_feasible.specs.Steps.{Combines, kept, kept_of, mixed_rows, IsMade
 use Rattle.crn_feasible.proofs.Lists.{all_fit, all_fit_at}
 use Rattle.crn_feasible.proofs.Certificates.{length-over, length-mixed}
 use Rattle.crn_feasible.proofs.Sparse.{over-spread, fold-spread, all-spread, ascend-divided}
-
-fold-append : {A B : Type 0} (f : B → A → B) (b : B) (xs ys : List A) → fold f b (xs ++ ys) ≡ fold f (fold f b xs) ys
-fold-append f b [] ys = refl
-fold-append f b (x ∷ xs) ys = fold-append f (f b x) xs ys
 
 -- the divisor of a row, from that of its entries on over its multipliers
 divisor-is : (k : Kept) (sources : ℕ) (ms : List (ℕ × ℤ)) → Ascend 0 sources ms → k.multipliers ≡ spread 0 sources ms
@@ -61,11 +59,7 @@ module _ (k : Kept) (columns sources : ℕ) (ms : List (ℕ × ℤ)) (g : ℕ) (
       let some : list_all fits (reduced k).multipliers ≡ false =
       ap (list_all fits) (sym (multipliers-are k sources ms g is_divisor multipliers))
       ∙ all-spread fits refl sources 0 (map (divided g) ms) (subst (λ n. Ascend 0 n (map (divided g) ms)) (sym to) (ascend-divided 0 sources g ms ascend)) ∙ h in
-      list_all-append fits (reduced k).row.entries (reduced k).multipliers ∙ and_false (list_all fits (reduced k).row.entries) (list_all fits (reduced k).multipliers) some
-    where
-      and_false : (a b : Bool) → b ≡ false → (a && b) ≡ false
-      and_false true b h = h
-      and_false false b h = refl
+      list_all-append fits (reduced k).row.entries (reduced k).multipliers ∙ and_right (list_all fits (reduced k).row.entries) (list_all fits (reduced k).multipliers) some
 
   row_same : (places : List ℤ) (out : List (ℕ × ℤ)) → take columns places ≡ over g k.row.entries → out ≡ map (divided g) ms → kept columns sources places out k.row.strict ≡ reduced k
   unfolding reduced

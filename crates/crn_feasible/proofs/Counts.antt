@@ -6,6 +6,7 @@ use Rattle.std.specs.Ordering.{int_eq}
 use Rattle.std.proofs.Math.Nat.{mul-le-mul_left}
 use Rattle.std.proofs.lemmas.Bool.Decides.{nat_tests, Decides-int_eq}
 use Rattle.std.proofs.lemmas.Int.{ints}
+use Rattle.std.proofs.lemmas.Bool.{false≢true}
 use Rattle.crn_feasible.specs.Elimination.{Stop, refuted, passes, too_many, Kept, fits, reduced, is_zero, same_direction, entry, zeros, positives, negatives, combined, take_row, take_rows, without}
 use Rattle.crn_feasible.proofs.Taking.{after-ok, after-err}
 
@@ -104,10 +105,7 @@ one_of_three k v zs ps ns n h false false true e f g = omega (arith, h)
 one_of_three k v zs ps ns n h false false false e f g = absurd (neither (entry v k) e f g)
   where
     neither : (x : ℤ) → false ≡ int_eq x (pos 0) → false ≡ int_lt (pos 0) x → false ≡ int_lt x (pos 0) → ⊥
-    neither x a b d = let c : x ≡ pos 0 = omega (arith, ints) in differ (a ∙ (Decides-int_eq x (pos 0)).1 c)
-      where
-        differ : false ≡ true → ⊥
-        differ e = cc
+    neither x a b d = let c : x ≡ pos 0 = omega (arith, ints) in false≢true (a ∙ (Decides-int_eq x (pos 0)).1 c)
 
 pub three_parts : (v : ℕ) (rows : List Kept) → length (zeros v rows) + length (positives v rows) + length (negatives v rows) ≡ length rows
 three_parts v [] = refl

@@ -1,5 +1,6 @@
 -- Rows with one column: at most four are kept, by sign and strength.
-use Rattle.std.proofs.Common.{◌≡◌, ℕ, zero, suc, pred, ◌+◌, ◌<◌, ◌≤◌, Bool, true, false, cond, ◌&&◌, ◌||◌, List, [], ◌∷◌, ◌++◌, length, get_or, refl, sym, ap, ap₂, ◌∙◌, arith}
+use Rattle.std.proofs.Common.{◌≡◌, ℕ, zero, suc, pred, ◌+◌, ◌<◌, ◌≤◌, Bool, true, false, cond, ◌&&◌, List, [], ◌∷◌, ◌++◌, length, get_or, refl, sym, ap, ap₂, ◌∙◌, arith}
+use Rattle.std.proofs.lemmas.Bool.{and_parts, or_parts, both_ways}
 use Rattle.std.specs.Prelude.{ℤ, pos, negsuc, neg_ℤ, int_lt, int_div, unsigned_abs, replicate}
 use Rattle.std.specs.List.{fold, list_all, list_any, filter}
 use Rattle.std.specs.Ordering.{int_eq}
@@ -19,17 +20,10 @@ abbrev pub Distinct : List Kept → Type 0
 Distinct [] = Unit {0}
 Distinct (k ∷ ks) = Each (λ q. same_direction q k ≡ false) ks × Distinct ks
 
-or_false : (a b : Bool) → (a || b) ≡ false → (a ≡ false) × (b ≡ false)
-or_false true b h = absurd (differ h)
-  where
-    differ : true ≡ false → ⊥
-    differ e = cc
-or_false false b h = (refl, h)
-
 pub Distinct-push : (rows : List Kept) (r : Kept) → list_any (same_direction r) rows ≡ false → Distinct rows → Distinct (rows ++ r ∷ [])
 Distinct-push [] r h d = (tt, tt)
 Distinct-push (k ∷ rows) r h d =
-    let both = or_false (same_direction r k) (list_any (same_direction r) rows) h in
+    let both = or_parts (same_direction r k) (list_any (same_direction r) rows) h in
     (Each-append (λ q. same_direction q k ≡ false) rows (r ∷ []) d.0 (both.0, tt), Distinct-push rows r both.1 d.1)
 
 -- ---- the direction of a row with one column
@@ -56,15 +50,12 @@ direction_one x r h z =
     let g : common (x ∷ r) ≡ unsigned_abs x = common_zeros (gcd 0 (unsigned_abs x)) r z ∙ gcd-zero (unsigned_abs x) in
     ap (λ t. over t (x ∷ r)) g ∙ ap₂ (λ y ys. y ∷ ys) (unit_of x h) (over_zeros (unsigned_abs x) r z)
 
-differ : (b : Bool) → b ≡ true → b ≡ false → ⊥
-differ b h k = cc
-
 direction_of_one : (r : List ℤ) → list_all (λ x. int_eq x (pos 0)) r ≡ false → ((i : ℕ) → 1 ≤ i → get_or r i (pos 0) ≡ pos 0)
     → direction r ≡ cond (int_lt (pos 0) (get_or r 0 (pos 0))) (pos 1) (negsuc 0) ∷ replicate (pred (length r)) (pos 0)
-direction_of_one [] h z = absurd (differ true refl h)
+direction_of_one [] h z = absurd (both_ways true h refl)
 direction_of_one (x ∷ r) h z =
     let rest : Each (λ x. x ≡ pos 0) r = all_zero r (λ i l. z (suc i) (omega arith)) in
-    direction_one x r (λ e. differ _ (test_from_zeros (x ∷ r) (e, rest)) h) rest
+    direction_one x r (λ e. both_ways _ h (test_from_zeros (x ∷ r) (e, rest))) rest
 
 -- a row with one column, of length n
 pub record IsSingle (n : ℕ) (k : Kept) : Type 0 where
@@ -98,13 +89,9 @@ beq_back true false h = cc
 beq_back false true h = cc
 beq_back false false h = refl
 
-and_both : (a b : Bool) → (a && b) ≡ true → (a ≡ true) × (b ≡ true)
-and_both true b h = (refl, h)
-and_both false b h = cc
-
 class_is : (s t : Bool) (k : Kept) → is_class s t k ≡ true → (sign k ≡ s) × (k.row.strict ≡ t)
 class_is s t k h =
-    let both = and_both (beq s (sign k)) (beq t k.row.strict) h in
+    let both = and_parts (beq s (sign k)) (beq t k.row.strict) h in
     (beq_back s (sign k) both.0, beq_back t k.row.strict both.1)
 
 none_left : (n : ℕ) (s t : Bool) (k : Kept) (ks : List Kept) → IsSingle n k → is_class s t k ≡ true → Each (IsSingle n) ks → Each (λ q. same_direction q k ≡ false) ks → length (filter (is_class s t) ks) ≡ 0
@@ -115,7 +102,7 @@ none_left n s t k (q ∷ ks) hk c h d = by_case (is_class s t q) (λ e. clash e)
     clash e =
         let cq = class_is s t q e in
         let ck = class_is s t k c in
-        differ (same_direction q k) (same_class n q k h.0 hk (cq.0 ∙ sym ck.0) (cq.1 ∙ sym ck.1)) d.0
+        both_ways (same_direction q k) d.0 (same_class n q k h.0 hk (cq.0 ∙ sym ck.0) (cq.1 ∙ sym ck.1))
 
     by_case : (b : Bool) → (b ≡ true → ⊥) → length (filter (is_class s t) ks) ≡ 0 → length (cond b (q ∷ filter (is_class s t) ks) (filter (is_class s t) ks)) ≡ 0
     by_case true f e = absurd (f refl)

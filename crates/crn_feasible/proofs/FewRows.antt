@@ -1,5 +1,5 @@
 -- With at most 128 rows and 3 columns no list keeps more than 4,096 rows.
-use Rattle.std.proofs.Common.{◌≡◌, ◌⊎◌, ⊎_elim, inl, inr, ℕ, zero, suc, ◌+◌, ◌<◌, ◌≤◌, Bool, true, false, cond, not, List, [], ◌∷◌, ◌++◌, length, Result, Ok, Err, refl, sym, ap, ◌∙◌, subst, arith}
+use Rattle.std.proofs.Common.{◌≡◌, ◌⊎◌, ⊎_elim, inl, inr, ℕ, zero, suc, ◌+◌, ◌<◌, ◌≤◌, Bool, true, false, cond, not, List, [], ◌∷◌, ◌++◌, length, Result, Ok, Err, refl, sym, ◌∙◌, subst, arith}
 use Rattle.std.specs.Prelude.{ℤ, nat_le}
 use Rattle.std.specs.List.{list_all, list_any}
 use Rattle.crn_fraction.specs.Rational.{ℚ}
@@ -13,6 +13,7 @@ use Rattle.crn_feasible.proofs.Points.{ZeroFrom, zero_reduced, zero_zeros, zero_
 use Rattle.crn_feasible.proofs.Certificates.{length-mixed, length-over}
 use Rattle.crn_feasible.proofs.Counts.{full_by, at_least, none_full, rows_full, kept_length, first_not_full}
 use Rattle.crn_feasible.proofs.Distinct.{Distinct, Distinct-push, IsSingle, at_most_four}
+use Rattle.crn_feasible.proofs.Parts.{length-started}
 
 appended_by : (f z s d m : Bool) (rows : List Kept) (r : Kept) (out : List Kept)
     → cond (not f) (Err passes) (cond z (cond s (Err (refuted r.multipliers)) (Ok rows)) (cond d (Ok rows) (cond m (Err too_many) (Ok (rows ++ r ∷ []))))) ≡ Ok out
@@ -129,10 +130,6 @@ three_columns n rows l p h =
 started_parts : (n i : ℕ) (rows : List Row) → Each (λ r. length r.entries ≡ n) rows → Each (IsPart n n) (started i rows)
 started_parts n i [] h = tt
 started_parts n i (r ∷ rows) h = (record { zeros = past n _ h.0; long = h.0 }, started_parts n (suc i) rows h.1)
-
-length-started : (i : ℕ) (rows : List Row) → length (started i rows) ≡ length rows
-length-started i [] = refl
-length-started i (r ∷ rows) = ap suc (length-started (suc i) rows)
 
 by_columns : (n : ℕ) (rows : List Kept) → n ≤ 3 → length rows ≤ 128 → Each (IsPart n n) rows → coordinates n rows ≡ Err too_many → ⊥
 by_columns zero rows l m p h = none_left h

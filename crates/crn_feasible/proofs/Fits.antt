@@ -20,12 +20,19 @@ use Rattle.crn_feasible.proofs.Sizes.{IsWithin, Sized, rows_within, kept_within,
 use Rattle.crn_feasible.proofs.PointSizes.{IsOver, value-over_den}
 use Rattle.crn_feasible.proofs.PointStep.{IsBound, bound_form}
 use Rattle.crn_feasible.proofs.NextFits.{AreOver, next_over, next_passes}
+use Rattle.crn_feasible.proofs.Bounds.{times_le, self_square, times_by}
 
 nonzero_low : (z : ℤ) → int_lt (pos 0) z ≡ true → z ≡ pos 0 → ⊥
 nonzero_low z h e = omega (arith, ints)
 
 nonzero_high : (z : ℤ) → int_lt z (pos 0) ≡ true → z ≡ pos 0 → ⊥
 nonzero_high z h e = omega (arith, ints)
+
+same : (xs ys : List ℚ) → ◌≡◌ {A = Result (List ℚ) Stop} (Ok xs) (Ok ys) → xs ≡ ys
+same xs ys e = cc
+
+grows : (m : ℕ) → 1 ≤ m → 1 ≤ m * m + m * m
+grows m h = grind arith
 
 module _ (v e u d n : ℕ) (xs : List ℚ) (p : 0 < d) (o : Each (IsOver d n) xs) where
   one_bound : (k : Kept) → (entry v k ≡ pos 0 → ⊥) → Sized e u k → IsBound d (length xs * (e * n)) e (bound v xs k)
@@ -114,9 +121,6 @@ one_over e u rows xs s h =
     let f = first_next e u rows s in
     let k : xs ≡ between (map (bound 0 []) (positives 0 rows)) (map (bound 0 []) (negatives 0 rows)) ∷ [] = same xs _ (sym t.2 ∙ f.0) in
     (subst (λ (o : List ℚ). AreOver 2 o) (sym k) f.1, ap length k)
-  where
-    same : (xs ys : List ℚ) → ◌≡◌ {A = Result (List ℚ) Stop} (Ok xs) (Ok ys) → xs ≡ ys
-    same xs ys e = cc
 
 -- two columns, where every product that comes is small
 pub two_pass : (m u : ℕ) (rows : List Kept) → 1 ≤ m
@@ -136,20 +140,11 @@ two_pass m u rows p h2 k2 h1 k1 h0 s h =
     let sz : length xs * (m * 2) ≡ 2 * m = let l = before.1 in rw l (omega arith) in
     let lows = subst (λ t. Each (IsBound d t m) (map (bound 1 xs) (positives 1 rows))) sz (low_bounds 1 m u d 2 xs a.positive a.each rows s) in
     let highs = subst (λ t. Each (IsBound d t m) (map (bound 1 xs) (negatives 1 rows))) sz (high_bounds 1 m u d 2 xs a.positive a.each rows s) in
-    let dm = times_most d m 2 a.most in
-    let sq = square m p in
+    let dm = times_by d m 2 a.most in
+    let sq = self_square m p in
     no_pass _ (next 1 rows xs)
     (next_passes d 2 (2 * m) m (4 * (m * m)) xs (map (bound 1 xs) (positives 1 rows)) (map (bound 1 xs) (negatives 1 rows)) a.positive a.most p
     (omega (arith, dm, sq)) (omega arith) (omega arith) (omega (arith, sq)) (omega (arith, sq)) h0 a.each lows highs) q) h
-  where
-    grows : (m : ℕ) → 1 ≤ m → 1 ≤ m * m + m * m
-    grows m h = grind arith
-
-    square : (m : ℕ) → 1 ≤ m → m ≤ m * m
-    square m h = grind arith
-
-    times_most : (d m n : ℕ) → d ≤ n → d * m ≤ n * m
-    times_most d m n h = grind arith
 
 -- ---- a system with two columns
 zeros_within : (n : ℕ) → Each (IsWithin 1) (replicate n (pos 0))
@@ -164,12 +159,6 @@ started_within : (m i : ℕ) (rows : List Row) → Each (λ r. Each (IsWithin m)
 started_within m i [] h = tt
 started_within m i (r ∷ rows) h = (record { entries = h.0; multipliers = unit_within i (length rows) }, started_within m (suc i) rows h.1)
 
-self_square : (m : ℕ) → 1 ≤ m → m ≤ m * m
-self_square m h = grind arith
-
-product_le : (a b c : ℕ) → b ≤ c → a * b ≤ a * c
-product_le a b c h = grind arith
-
 no_point_pass : (p : List ℤ) → ◌≡◌ {A = Result (List ℤ) Stop} (Ok p) (Err passes) → ⊥
 no_point_pass p h = cc
 
@@ -180,7 +169,7 @@ two_columns_pass s m p two small l h =
     let a = self_square m p in
     let b : 1 ≤ m * m = omega (arith, a) in
     let c = self_square (m * m) b in
-    let d = product_le (m * m) m (m * m) a in
+    let d = times_le (m * m) m (m * m) a in
     ⊎_elim (λ (q : take_rows [] ks ≡ Err passes). rows_within m 1 [] ks (omega (arith, a, c, l)) (omega arith) sized q)
     (λ (t : (rows : List Kept) × (take_rows [] ks ≡ Ok rows) × (after (coordinates s.columns rows) (λ xs. Ok (numerators_over (common_den xs) xs)) ≡ Err passes)).
     let kept : Each (Sized m 1) t.0 = kept_within m 1 ks t.0 t.1 sized in
@@ -205,7 +194,7 @@ two_over e u rows ys p h0 s h =
     let sz : length xs * (e * 2) ≡ 2 * e = let l = before.1 in rw l (omega arith) in
     let lows = subst (λ t. Each (IsBound d t e) (map (bound 1 xs) (positives 1 rows))) sz (low_bounds 1 e u d 2 xs a.positive a.each rows s) in
     let highs = subst (λ t. Each (IsBound d t e) (map (bound 1 xs) (negatives 1 rows))) sz (high_bounds 1 e u d 2 xs a.positive a.each rows s) in
-    let dm = times_most d e 2 a.most in
+    let dm = times_by d e 2 a.most in
     let sq = self_square e p in
     let ok = next_passes d 2 (2 * e) e (4 * (e * e)) xs (map (bound 1 xs) (positives 1 rows)) (map (bound 1 xs) (negatives 1 rows)) a.positive a.most p
     (omega (arith, dm, sq)) (omega arith) (omega arith) (omega (arith, sq, h0)) (omega (arith, sq, h0)) h0 a.each lows highs in
@@ -213,12 +202,6 @@ two_over e u rows ys p h0 s h =
     (omega (arith, dm, sq)) (omega arith) (omega arith) a.each lows highs in
     let k : ys ≡ xs ++ between (map (bound 1 xs) (positives 1 rows)) (map (bound 1 xs) (negatives 1 rows)) ∷ [] = same ys _ (sym w.2 ∙ ok) in
     (subst (λ (o : List ℚ). AreOver (4 * (e * e)) o) (sym k) ov, ap length k ∙ length-append xs _ ∙ ap (λ n. n + 1) before.1)
-  where
-    same : (xs ys : List ℚ) → ◌≡◌ {A = Result (List ℚ) Stop} (Ok xs) (Ok ys) → xs ≡ ys
-    same xs ys e = cc
-
-    times_most : (d m n : ℕ) → d ≤ n → d * m ≤ n * m
-    times_most d m n h = grind arith
 
 three_pass : (m u N : ℕ) (rows : List Kept) → 1 ≤ m → let E = m * m + m * m in let U = m * u + m * u in
     N ≡ 4 * (E * E)
@@ -240,20 +223,14 @@ three_pass m u N rows p is h3 k3 h2 k2 h1 k1 h0 hy s h =
     let sz : length xs * (m * N) ≡ 2 * (m * N) = let l = before.1 in rw l refl in
     let lows = subst (λ t. Each (IsBound d t m) (map (bound 2 xs) (positives 2 rows))) sz (low_bounds 2 m u d N xs a.positive a.each rows s) in
     let highs = subst (λ t. Each (IsBound d t m) (map (bound 2 xs) (negatives 2 rows))) sz (high_bounds 2 m u d N xs a.positive a.each rows s) in
-    let dm = times_most d m N a.most in
+    let dm = times_by d m N a.most in
     let sq = wide m N p in
     no_pass _ (next 2 rows xs)
     (next_passes d N (2 * (m * N)) m (4 * (m * (m * N))) xs (map (bound 2 xs) (positives 2 rows)) (map (bound 2 xs) (negatives 2 rows)) a.positive a.most p
     (omega (arith, dm, sq)) (omega arith) (omega arith) (omega (arith, sq, hy)) (omega (arith, sq, hy)) hy a.each lows highs) q) h
   where
-    grows : (m : ℕ) → 1 ≤ m → 1 ≤ m * m + m * m
-    grows m h = grind arith
-
     wide : (m n : ℕ) → 1 ≤ m → m * n ≤ m * (m * n)
     wide m n h = grind arith
-
-    times_most : (d m n : ℕ) → d ≤ n → d * m ≤ n * m
-    times_most d m n h = grind arith
 
 -- with 3 columns no number passes 128 m^8
 pub three_columns_pass : (s : System) (m : ℕ) → 1 ≤ m → s.columns ≡ 3 → Each (λ r. Each (IsWithin m) r.entries) s.rows
@@ -268,9 +245,9 @@ three_columns_pass s m p three small l h =
     let c = self_square q b in
     let b2 : 1 ≤ r = omega (arith, c, b) in
     let g = self_square r b2 in
-    let d3 = product_le q m q a in
-    let d7 = product_le (r * q) m q a in
-    let d6 = product_le r q r c in
+    let d3 = times_le q m q a in
+    let d7 = times_le (r * q) m q a in
+    let d6 = times_le r q r c in
     ⊎_elim (λ (w : take_rows [] ks ≡ Err passes). rows_within m 1 [] ks (omega (arith, a, c, g, l)) (omega arith) sized w)
     (λ (t : (rows : List Kept) × (take_rows [] ks ≡ Ok rows) × (after (coordinates s.columns rows) (λ xs. Ok (numerators_over (common_den xs) xs)) ≡ Err passes)).
     let kept : Each (Sized m 1) t.0 = kept_within m 1 ks t.0 t.1 sized in

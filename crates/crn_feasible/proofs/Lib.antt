@@ -1,3 +1,4 @@
+pub mod Bounds
 pub mod Divisors
 pub mod Commons
 pub mod Quotients

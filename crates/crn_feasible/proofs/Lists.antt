@@ -6,6 +6,7 @@ use Rattle.std.specs.Ordering.{int_eq}
 use Rattle.std.specs.Cmp.Lexicographic.{pointwise}
 use Rattle.std.proofs.lemmas.Bool.Decides.{nat_tests}
 use Rattle.std.proofs.lemmas.List.Elements.{All-head, All-tail}
+use Rattle.std.proofs.lemmas.Bool.{le-leb}
 use Rattle.crn_linear.specs.Rows.{IsSmall, AreSmall}
 use Rattle.crn_feasible.specs.declared.rows.Ending.{Ending}
 use Rattle.crn_feasible.specs.declared.rows.Ending.TheVariants.{Refuted, TooBig, TooManyRows, Memory}
@@ -29,10 +30,7 @@ tests f z s d m rows r = (
 )
 
 fit_one : (x : ℤ) → IsSmall x → fits x ≡ true
-fit_one x h = below (unsigned_abs x) h.size
-  where
-    below : (n : ℕ) → n ≤ 2 ^ 59 → nat_le n (2 ^ 59) ≡ true
-    below n l = grind (arith, nat_tests)
+fit_one x h = le-leb (unsigned_abs x) (2 ^ 59) h.size
 
 pub all_fit : (xs : List ℤ) → AreSmall xs → list_all fits xs ≡ true
 all_fit [] h = refl

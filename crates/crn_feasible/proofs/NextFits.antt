@@ -3,6 +3,7 @@ use Rattle.std.proofs.Common.{◌≡◌, ℕ, ◌+◌, ◌*◌, ◌<◌, ◌≤�
 use Rattle.std.specs.Prelude.{ℤ, pos, ◌+ℤ◌, ◌-ℤ◌, ◌*ℤ◌, unsigned_abs, ◌&&◌}
 use Rattle.std.specs.List.{list_all}
 use Rattle.std.proofs.lemmas.Int.{ints, unsigned_abs-mul}
+use Rattle.std.proofs.lemmas.Nat.{mul-le}
 use Rattle.crn_fraction.specs.Rational.{ℚ, ratio, whole, ◌+ℚ◌, ◌-ℚ◌}
 use Rattle.crn_fraction.proofs.Ratios.{over-+ℚ, over--ℚ, over-whole, times_pos}
 use Rattle.crn_feasible.specs.Elimination.{passes, fits, fits_ℚ, greatest, least, between, numerators_over, with_next}
@@ -11,12 +12,10 @@ use Rattle.crn_feasible.proofs.Orders.{Each}
 use Rattle.crn_feasible.proofs.Taking.{Each-append}
 use Rattle.crn_feasible.proofs.PointSizes.{IsOver, greatest-among, least-among}
 use Rattle.crn_feasible.proofs.PointStep.{IsBound, fits_over, all_fit_over, middle_over, ratio-spread}
-
-most : (a x u n : ℕ) → a ≤ u → x ≤ n → a * x ≤ u * n
-most a x u n h k = grind arith
+use Rattle.crn_feasible.proofs.Bounds.{self_square}
 
 abs_pos : (x : ℤ) (m n k : ℕ) → unsigned_abs x ≤ n → m ≤ k → unsigned_abs (x *ℤ pos m) ≤ n * k
-abs_pos x m n k h l = let w = most (unsigned_abs x) m n k h l in omega (arith, w, unsigned_abs-mul x (pos m))
+abs_pos x m n k h l = let w = mul-le (unsigned_abs x) m n k h l in omega (arith, w, unsigned_abs-mul x (pos m))
 
 -- the same number over a larger denominator
 spread_over : (d n m k : ℕ) (q : ℚ) → 0 < d → 0 < m → m ≤ k → IsOver d n q → IsOver (d * m) (n * k) q
@@ -44,7 +43,7 @@ add_one d s e q p b =
     record {
       top = b.top +ℤ pos 1 *ℤ pos (d * b.part);
       is = ap₂ (λ u w. u +ℚ w) b.is (over-whole (pos 1) (d * b.part) c) ∙ over-+ℚ b.top (d * b.part) (pos 1 *ℤ pos (d * b.part)) c;
-      size = sizes b.top (d * b.part) s (d * e) b.size (most d b.part d e (omega arith) b.most);
+      size = sizes b.top (d * b.part) s (d * e) b.size (mul-le d b.part d e (omega arith) b.most);
     }
   where
     sizes : (x : ℤ) (m s n : ℕ) → unsigned_abs x ≤ s → m ≤ n → unsigned_abs (x +ℤ pos 1 *ℤ pos m) ≤ s + n
@@ -56,36 +55,33 @@ sub_one d s e q p b =
     record {
       top = b.top -ℤ pos 1 *ℤ pos (d * b.part);
       is = ap₂ (λ u w. u -ℚ w) b.is (over-whole (pos 1) (d * b.part) c) ∙ over--ℚ b.top (d * b.part) (pos 1 *ℤ pos (d * b.part)) c;
-      size = sizes b.top (d * b.part) s (d * e) b.size (most d b.part d e (omega arith) b.most);
+      size = sizes b.top (d * b.part) s (d * e) b.size (mul-le d b.part d e (omega arith) b.most);
     }
   where
     sizes : (x : ℤ) (m s n : ℕ) → unsigned_abs x ≤ s → m ≤ n → unsigned_abs (x -ℤ pos 1 *ℤ pos m) ≤ s + n
     sizes x m s n h k = omega (arith, ints)
 
-grows : (e : ℕ) → 1 ≤ e → e ≤ e * e
-grows e h = grind arith
-
 -- the coordinate between bounds, for y that holds all that comes
 pub between_over : (d s e y : ℕ) (ls us : List ℚ) → 0 < d → 1 ≤ e → s + d * e ≤ y → s * e + s * e ≤ y → Each (IsBound d s e) ls → Each (IsBound d s e) us
     → (m : ℕ) × (0 < m) × (m ≤ e * e * 2) × IsOver (d * m) y (between ls us)
 between_over d s e y [] [] p r h k a b =
-    (1, omega arith, (let w = grows e r in omega (arith, w)), record { top = pos 0; is = over-whole (pos 0) (d * 1) (times_pos d 1 p (omega arith)) ∙ ap (λ t. ratio t (d * 1)) (zero_top (d * 1)); size = omega arith })
+    (1, omega arith, (let w = self_square e r in omega (arith, w)), record { top = pos 0; is = over-whole (pos 0) (d * 1) (times_pos d 1 p (omega arith)) ∙ ap (λ t. ratio t (d * 1)) (zero_top (d * 1)); size = omega arith })
   where
     zero_top : (n : ℕ) → pos 0 *ℤ pos n ≡ pos 0
     zero_top n = omega (arith, ints)
 between_over d s e y (l ∷ ls) [] p r h k a b =
     let g = greatest-among (IsBound d s e) l ls a.0 a.1 in
     let o = add_one d s e (greatest l ls) p g in
-    (g.part, g.positive, (let w = grows e r in omega (arith, g.most, w)), record { top = o.top; is = o.is; size = omega (arith, o.size) })
+    (g.part, g.positive, (let w = self_square e r in omega (arith, g.most, w)), record { top = o.top; is = o.is; size = omega (arith, o.size) })
 between_over d s e y [] (u ∷ us) p r h k a b =
     let g = least-among (IsBound d s e) u us b.0 b.1 in
     let o = sub_one d s e (least u us) p g in
-    (g.part, g.positive, (let w = grows e r in omega (arith, g.most, w)), record { top = o.top; is = o.is; size = omega (arith, o.size) })
+    (g.part, g.positive, (let w = self_square e r in omega (arith, g.most, w)), record { top = o.top; is = o.is; size = omega (arith, o.size) })
 between_over d s e y (l ∷ ls) (u ∷ us) p r h k a b =
     let g = greatest-among (IsBound d s e) l ls a.0 a.1 in
     let f = least-among (IsBound d s e) u us b.0 b.1 in
     let o = middle_over d s e (greatest l ls) (least u us) p g f in
-    let w = most g.part f.part e e g.most f.most in
+    let w = mul-le g.part f.part e e g.most f.most in
     let q = times_pos g.part f.part g.positive f.positive in
     let shape : (d * g.part * f.part) * 2 ≡ d * (g.part * f.part * 2) = omega arith in
     (g.part * f.part * 2, omega (arith, q), omega (arith, w), record { top = o.top; is = o.is ∙ ap (ratio o.top) shape; size = omega (arith, o.size) })
@@ -96,7 +92,7 @@ pub next_over : (d n s e y : ℕ) (xs ls us : List ℚ) → 0 < d → d ≤ n �
 next_over d n s e y xs ls us p l r h k g o a b =
     let x = between_over d s e y ls us p r h k a b in
     let m = x.0 in
-    let w = most d m n (e * e * 2) l x.2 in
+    let w = mul-le d m n (e * e * 2) l x.2 in
     record {
       den = d * m;
       positive = times_pos d m p x.1;
@@ -109,7 +105,7 @@ bounds_fit : (d n s e : ℕ) (qs rest : List ℚ) → 0 < d → d ≤ n → n * 
 bounds_fit d n s e [] rest p l h k b r = r
 bounds_fit d n s e (q ∷ qs) rest p l h k b r =
     let t = b.0 in
-    let w = most d t.part n e l t.most in
+    let w = mul-le d t.part n e l t.most in
     let f : fits_ℚ q ≡ true = fits_over (d * t.part) s q (times_pos d t.part p t.positive) (omega (arith, w)) k (record { top = t.top; is = t.is; size = t.size }) in
     rw f (bounds_fit d n s e qs rest p l h k b.1 r)
 

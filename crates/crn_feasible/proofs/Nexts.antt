@@ -1,9 +1,10 @@
 -- What follows for the next value from what the steps of the code answer.
 use Rattle.std.proofs.Common.{◌≡◌, Bool, true, false, cond, ◌&&◌, List, [], ◌∷◌, ◌++◌, Result, Ok, Err, refl, sym, ap, ap₂, ◌∙◌}
 use Rattle.std.specs.Prelude.{pos, MatchResult}
-use Rattle.std.proofs.Common.{subst, ℕ, zero, suc, ◌-◌, arith}
+use Rattle.std.proofs.Common.{ℕ, zero, suc, ◌-◌, arith}
 use Rattle.std.specs.List.{list_all}
 use Rattle.std.proofs.lemmas.List.Folds.{list_all-append}
+use Rattle.std.proofs.lemmas.Bool.{and_right}
 use Rattle.crn_fraction.specs.Rational.{ℚ}
 use Rattle.crn_linear.specs.Cleared.{common_den}
 use Rattle.crn_feasible.specs.declared.rows.Ending.{Ending}
@@ -19,10 +20,6 @@ misses_ends P (Refuted c) r h m = absurd m
 misses_ends P TooBig r h m = h m
 misses_ends P TooManyRows r h m = absurd m
 misses_ends P Memory r h m = tt
-
-and_right : (a b : Bool) → b ≡ false → (a && b) ≡ false
-and_right true b h = h
-and_right false b h = refl
 
 module _ (lows highs xs : List ℚ) (x : ℚ) where
   abbrev tests : Bool
@@ -64,16 +61,6 @@ module _ (lows highs xs : List ℚ) (x : ℚ) where
   all_fit h k l m =
       let first : tests ≡ true = parts ∙ ap₂ (λ s t. (s && t) && (fits_ℚ x && true)) h k ∙ ap (λ t. t && true) l in
       ap₂ (λ s t. cond (s && t) (Ok (xs ++ x ∷ [])) (Err passes)) first m
-
--- an ending within a step is one of the step
-pub misses_exit : {A : Type 0} (result : Result A Ending) (P : A → Type 0) (Q R : Type 0) (e : Ending) → (x : Ending) × (result ≡ Err x) × (x ≡ e) → (Q → R) → Misses Q e → MatchResult result P (Misses R)
-misses_exit result P Q R e same f m = subst (λ t. MatchResult t P (Misses R)) (sym same.1) (subst (Misses R) (sym same.2) (by e m))
-  where
-    by : (e : Ending) → Misses Q e → Misses R e
-    by (Refuted c) m = absurd m
-    by TooBig m = f m
-    by TooManyRows m = absurd m
-    by Memory m = tt
 
 -- the last call, over the values with one more
 pub finished : (r : Result Values Ending) (lows highs xs : List ℚ) (x : ℚ) (all : List ℚ) → all ≡ xs ++ x ∷ []

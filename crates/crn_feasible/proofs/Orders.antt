@@ -1,18 +1,15 @@
 -- Orders that are strict or not, under positive factors and between bounds.
 use Rattle.std.proofs.Common.{◌≡◌, ◌↔◌, ⊎_elim, Bool, true, false, cond, List, [], ◌∷◌, refl, subst, arith}
-use Rattle.std.specs.Prelude.{ℤ, pos, ◌<ℤ◌}
+use Rattle.std.specs.Prelude.{pos}
 use Rattle.std.proofs.lemmas.Int.{ints, clamps}
 use Rattle.crn_fraction.specs.Rational.{ℚ, whole, ◌+ℚ◌, ◌-ℚ◌, ◌*ℚ◌, ◌/ℚ◌, ◌≤ℚ◌, ◌<ℚ◌, min_ℚ, max_ℚ}
 use Rattle.crn_fraction.proofs.Ratios.{by_common_2, by_common_3, over-whole}
-use Rattle.crn_fraction.proofs.Order.{linear, ≤ℚ_refl, ≤ℚ_or_<ℚ, ≤ℚ_of_<ℚ, over-<ℚ}
-use Rattle.crn_fraction.proofs.Linear.{max_ℚ-above_left, max_ℚ-above_right, ≤ℚ_trans, not_<ℚ, ≤ℚ-<ℚ_trans, <ℚ-≤ℚ_trans}
-use Rattle.crn_fraction.proofs.Products.{*ℚ-≤ℚ, *ℚ-<ℚ, ≤ℚ_of_*ℚ, *ℚ-/ℚ}
+use Rattle.crn_fraction.proofs.Order.{linear, ≤ℚ_refl, ≤ℚ_or_<ℚ, ≤ℚ_of_<ℚ}
+use Rattle.crn_fraction.proofs.Linear.{max_ℚ-above_left, max_ℚ-above_right, ≤ℚ_trans, not_<ℚ, min_ℚ-greatest}
+use Rattle.crn_fraction.proofs.Products.{*ℚ-≤ℚ, *ℚ-<ℚ, ≤ℚ_of_*ℚ, *ℚ-/ℚ, whole-positive}
 use Rattle.crn_fraction.proofs.Ring.{ring_ℚ, q-writes}
 use Rattle.crn_linear.specs.Rows.{IsBelow}
 use Rattle.crn_feasible.specs.Elimination.{greatest, least}
-
-pub whole-positive : (z : ℤ) → pos 0 <ℤ z → whole (pos 0) <ℚ whole z
-whole-positive z h = (over-<ℚ (pos 0) 1 z (omega arith)).1 h
 
 pub <ℚ_of_*ℚ : (k a b : ℚ) → whole (pos 0) <ℚ k → k *ℚ a <ℚ k *ℚ b → a <ℚ b
 <ℚ_of_*ℚ k a b h l =
@@ -49,24 +46,11 @@ pub IsBelow-difference : (s : Bool) (a b : ℚ) → IsBelow s (whole (pos 0)) (b
 IsBelow-difference true a b = difference_lt a b
 IsBelow-difference false a b = difference_le a b
 
--- weaker
-pub IsBelow-weak : (s : Bool) (a b : ℚ) → IsBelow s a b → a ≤ℚ b
-IsBelow-weak true a b h = ≤ℚ_of_<ℚ a b h
-IsBelow-weak false a b h = h
-
 pub IsBelow-either : (s t : Bool) (a b : ℚ) → IsBelow (cond s true t) a b → IsBelow s a b × IsBelow t a b
 IsBelow-either true true a b h = (h, h)
 IsBelow-either true false a b h = (h, ≤ℚ_of_<ℚ a b h)
 IsBelow-either false true a b h = (≤ℚ_of_<ℚ a b h, h)
 IsBelow-either false false a b h = (h, h)
-
-pub IsBelow-≤ : (s : Bool) (a b c : ℚ) → IsBelow s a b → b ≤ℚ c → IsBelow s a c
-IsBelow-≤ true a b c h l = <ℚ-≤ℚ_trans a b c h l
-IsBelow-≤ false a b c h l = ≤ℚ_trans a b c h l
-
-pub ≤-IsBelow : (s : Bool) (a b c : ℚ) → a ≤ℚ b → IsBelow s b c → IsBelow s a c
-≤-IsBelow true a b c h l = ≤ℚ-<ℚ_trans a b c h l
-≤-IsBelow false a b c h l = ≤ℚ_trans a b c h l
 
 -- ---- the middle
 half_le : (a l u : ℚ) → a ≤ℚ l → a ≤ℚ u → whole (pos 2) *ℚ a ≤ℚ l +ℚ u
@@ -126,12 +110,9 @@ min_down = by_common_2 (λ a b. (min_ℚ a b ≤ℚ a) × (min_ℚ a b ≤ℚ b)
 min_lt : (a b c : ℚ) → c <ℚ a → c <ℚ b → c <ℚ min_ℚ a b
 min_lt = by_common_3 (λ a b c. c <ℚ a → c <ℚ b → c <ℚ min_ℚ a b) (λ d p x y z. simp linear (omega (arith, ints, clamps)))
 
-min_le : (a b c : ℚ) → c ≤ℚ a → c ≤ℚ b → c ≤ℚ min_ℚ a b
-min_le = by_common_3 (λ a b c. c ≤ℚ a → c ≤ℚ b → c ≤ℚ min_ℚ a b) (λ d p x y z. simp linear (omega (arith, ints, clamps)))
-
 pub IsBelow-min : (s : Bool) (a b c : ℚ) → IsBelow s c a → IsBelow s c b → IsBelow s c (min_ℚ a b)
 IsBelow-min true a b c h k = min_lt a b c h k
-IsBelow-min false a b c h k = min_le a b c h k
+IsBelow-min false a b c h k = min_ℚ-greatest a b c h k
 
 pub max-IsBelow : (s : Bool) (a b c : ℚ) → IsBelow s a c → IsBelow s b c → IsBelow s (max_ℚ a b) c
 max-IsBelow true a b c h k = max_lt a b c h k

@@ -1,5 +1,6 @@
 -- The greatest and the least of bounds, bound by bound, and the value between them over one denominator.
-use Rattle.std.proofs.Common.{◌≡◌, ⊎_elim, ℕ, zero, suc, ◌*◌, ◌<◌, ◌≤◌, ◌^◌, Bool, true, false, cond, ◌&&◌, List, [], ◌∷◌, length, get_or, drop, refl, sym, ap, ap₂, ◌∙◌, arith, Ordering, Less, Equal, Greater}
+use Rattle.std.proofs.Common.{◌≡◌, ⊎_elim, ℕ, zero, suc, ◌*◌, ◌<◌, ◌≤◌, ◌^◌, true, false, cond, List, [], ◌∷◌, length, get_or, drop, refl, sym, ap, ap₂, ◌∙◌, arith, Ordering, Less, Equal, Greater}
+use Rattle.std.proofs.lemmas.Bool.{and_parts}
 use Rattle.std.specs.Prelude.{ℤ, pos, ◌+ℤ◌, ◌-ℤ◌, ◌*ℤ◌, ◌<ℤ◌, int_lt, unsigned_abs, nat_le}
 use Rattle.std.specs.List.{fold, list_all}
 use Rattle.std.specs.Ordering.{MatchOrdering, int_cmp}
@@ -41,23 +42,16 @@ fits-max a b h k = ⊎_elim (λ e. ap fits_ℚ e ∙ h) (λ e. ap fits_ℚ e ∙
 pub fits-min : (a b : ℚ) → fits_ℚ a ≡ true → fits_ℚ b ≡ true → fits_ℚ (min_ℚ a b) ≡ true
 fits-min a b h k = ⊎_elim (λ e. ap fits_ℚ e ∙ h) (λ e. ap fits_ℚ e ∙ k) (min_ℚ_cases a b)
 
-and_both : (a b : Bool) → (a && b) ≡ true → (a ≡ true) × (b ≡ true)
-and_both true b h = (refl, h)
-and_both false b h = cc
-
 pub fits_at : (qs : List ℚ) (i : ℕ) (d : ℚ) → list_all fits_ℚ qs ≡ true → i < length qs → fits_ℚ (get_or qs i d) ≡ true
 fits_at [] i d h l = absurd (omega arith)
-fits_at (q ∷ qs) zero d h l = (and_both (fits_ℚ q) (list_all fits_ℚ qs) h).0
-fits_at (q ∷ qs) (suc i) d h l = fits_at qs i d (and_both (fits_ℚ q) (list_all fits_ℚ qs) h).1 (omega arith)
+fits_at (q ∷ qs) zero d h l = (and_parts (fits_ℚ q) (list_all fits_ℚ qs) h).0
+fits_at (q ∷ qs) (suc i) d h l = fits_at qs i d (and_parts (fits_ℚ q) (list_all fits_ℚ qs) h).1 (omega arith)
 
 pub fits_rest : (qs : List ℚ) → list_all fits_ℚ qs ≡ true → list_all fits_ℚ (drop 1 qs) ≡ true
 fits_rest [] h = refl
-fits_rest (q ∷ qs) h = (and_both (fits_ℚ q) (list_all fits_ℚ qs) h).1
+fits_rest (q ∷ qs) h = (and_parts (fits_ℚ q) (list_all fits_ℚ qs) h).1
 
 -- ---- all of them
-pub greatest_is : (qs : List ℚ) (d : ℚ) → 0 < length qs → fold max_ℚ (get_or qs 0 d) (drop 1 qs) ≡ greatest_of qs
-greatest_is [] d h = absurd (omega arith)
-greatest_is (q ∷ qs) d h = refl
 
 pub least_is : (qs : List ℚ) (d : ℚ) → 0 < length qs → fold min_ℚ (get_or qs 0 d) (drop 1 qs) ≡ least_of qs
 least_is [] d h = absurd (omega arith)
@@ -108,7 +102,7 @@ at_most : (n : ℕ) → nat_le n (2 ^ 59) ≡ true → n ≤ 2 ^ 59
 at_most n h = grind (arith, nat_tests)
 
 pub num_fits : (q : ℚ) → fits_ℚ q ≡ true → unsigned_abs q.num ≤ 2 ^ 59
-num_fits q h = at_most (unsigned_abs q.num) (and_both (fits q.num) (fits (pos q.den)) h).0
+num_fits q h = at_most (unsigned_abs q.num) (and_parts (fits q.num) (fits (pos q.den)) h).0
 
 pub den_fits : (q : ℚ) → fits_ℚ q ≡ true → q.den ≤ 2 ^ 59
-den_fits q h = at_most q.den (and_both (fits q.num) (fits (pos q.den)) h).1
+den_fits q h = at_most q.den (and_parts (fits q.num) (fits (pos q.den)) h).1

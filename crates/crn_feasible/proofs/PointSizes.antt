@@ -1,35 +1,23 @@
 -- How large the numbers of the point become: the coordinates are written over one denominator.
-use Rattle.std.proofs.Common.{◌≡◌, ⊎_elim, ℕ, suc, ◌+◌, ◌*◌, ◌/◌, ◌<◌, ◌≤◌, List, [], ◌∷◌, length, sym, ap, ap₂, ◌∙◌, subst, arith}
+use Rattle.std.proofs.Common.{◌≡◌, ⊎_elim, ℕ, suc, ◌*◌, ◌<◌, ◌≤◌, List, [], ◌∷◌, length, sym, ap, ap₂, ◌∙◌, subst, arith}
 use Rattle.std.specs.Prelude.{ℤ, pos, ◌+ℤ◌, ◌*ℤ◌, unsigned_abs}
 use Rattle.std.specs.Int.{◌∣◌}
-use Rattle.std.proofs.Math.Nat.{div-le_self, dvd-mul_right, le_of_dvd}
+use Rattle.std.proofs.Math.Nat.{le_of_dvd}
 use Rattle.std.proofs.lemmas.Int.{ints, unsigned_abs-mul}
-use Rattle.crn_fraction.specs.Gcd.{gcd, right-over_gcd}
-use Rattle.crn_fraction.specs.Rational.{ℚ, ratio, whole, ◌+ℚ◌, ◌*ℚ◌, min_ℚ, max_ℚ, unsigned_abs-int_div}
-use Rattle.crn_fraction.proofs.Core.{num-ratio, den-ratio}
+use Rattle.std.proofs.lemmas.Nat.{mul-le}
+use Rattle.crn_fraction.specs.Rational.{ℚ, ratio, whole, ◌+ℚ◌, ◌*ℚ◌, min_ℚ, max_ℚ}
 use Rattle.crn_fraction.proofs.Order.{≤ℚ_or_<ℚ, ≤ℚ_of_<ℚ, max_ℚ-left, max_ℚ-right, min_ℚ-left, min_ℚ-right}
-use Rattle.crn_fraction.proofs.Ratios.{over-+ℚ, over-whole-*ℚ, over-whole}
+use Rattle.crn_fraction.proofs.Ratios.{over-+ℚ, over-whole-*ℚ, over-whole, zero_over}
+use Rattle.crn_fraction.proofs.Lowest.{den-divides}
 use Rattle.crn_linear.specs.Rows.{value}
 use Rattle.crn_linear.specs.Cleared.{common_den}
 use Rattle.crn_feasible.specs.Elimination.{greatest, least}
 use Rattle.crn_linear.proofs.Denominators.{common_den-least}
 use Rattle.crn_feasible.proofs.Orders.{Each}
 use Rattle.crn_feasible.proofs.Points.{Each-at_index}
+use Rattle.crn_feasible.proofs.Bounds.{abs_sum}
 
 -- ---- lowest terms are no larger
-pub num_most : (y : ℤ) (d : ℕ) → 0 < d → unsigned_abs (ratio y d).num ≤ unsigned_abs y
-num_most y d p =
-    let e = ap unsigned_abs (num-ratio y d p) ∙ unsigned_abs-int_div y (gcd (unsigned_abs y) d) in
-    let l = div-le_self (unsigned_abs y) (gcd (unsigned_abs y) d) in
-    omega (arith, e, l)
-
-pub den_most : (y : ℤ) (d : ℕ) → 0 < d → (ratio y d).den ≤ d
-den_most y d p = let l = div-le_self d (gcd (unsigned_abs y) d) in omega (arith, den-ratio y d p, l)
-
-pub den_divides : (y : ℤ) (d : ℕ) → 0 < d → (ratio y d).den ∣ d
-den_divides y d p =
-    let g = gcd (unsigned_abs y) d in
-    subst (λ n. n ∣ d) (sym (den-ratio y d p)) (subst (λ n. d / g ∣ n) (right-over_gcd (unsigned_abs y) d) (dvd-mul_right (d / g) g))
 
 -- q over the denominator d, with a numerator of at most n
 pub record IsOver (d n : ℕ) (q : ℚ) : Type 0 where
@@ -42,7 +30,7 @@ common_den_most d n qs p h = le_of_dvd p (common_den-least qs d (Each-at_index (
   where
     each : (qs : List ℚ) → Each (IsOver d n) qs → Each (λ q. q.den ∣ d) qs
     each [] h = tt
-    each (q ∷ qs) h = (subst (λ (t : ℚ). t.den ∣ d) (sym h.0.is) (den_divides h.0.top d p), each qs h.1)
+    each (q ∷ qs) h = (subst (λ (t : ℚ). t.den ∣ d) (sym h.0.is) (den-divides h.0.top d p), each qs h.1)
 
 -- ---- the greatest and the least are among them
 pub greatest-among : (P : ℚ → Type 0) (l : ℚ) (ls : List ℚ) → P l → Each P ls → P (greatest l ls)
@@ -60,9 +48,6 @@ least-among P u (q ∷ us) h k =
 -- ---- the value of a row at coordinates over d
 pub value-over_den : (r : List ℤ) (d n e : ℕ) (qs : List ℚ) → 0 < d → Each (λ a. unsigned_abs a ≤ e) r → Each (IsOver d n) qs → IsOver d (length qs * (e * n)) (value r qs)
 value-over_den [] d n e qs p h k = record { top = pos 0; is = zero_over d p; size = omega arith }
-  where
-    zero_over : (d : ℕ) → 0 < d → whole (pos 0) ≡ ratio (pos 0) d
-    zero_over d p = over-whole (pos 0) d p ∙ ap (λ t. ratio t d) (let z : pos 0 *ℤ pos d ≡ pos 0 = omega (arith, ints) in z)
 value-over_den (a ∷ r) d n e [] p h k = record { top = pos 0; is = over-whole (pos 0) d p ∙ ap (λ t. ratio t d) (let z : pos 0 *ℤ pos d ≡ pos 0 = omega (arith, ints) in z); size = omega arith }
 value-over_den (a ∷ r) d n e (q ∷ qs) p h k =
     let rest = value-over_den r d n e qs p h.1 k.1 in
@@ -75,16 +60,6 @@ value-over_den (a ∷ r) d n e (q ∷ qs) p h k =
   where
     step : (m e n : ℕ) (a t s : ℤ) → unsigned_abs a ≤ e → unsigned_abs t ≤ n → unsigned_abs s ≤ m * (e * n) → unsigned_abs (a *ℤ t +ℤ s) ≤ suc m * (e * n)
     step m e n a t s h k l =
-        let w = most (unsigned_abs a) (unsigned_abs t) e n h k in
+        let w = mul-le (unsigned_abs a) (unsigned_abs t) e n h k in
         let v = abs_sum (a *ℤ t) s in
         omega (arith, w, v, unsigned_abs-mul a t)
-      where
-        most : (a x u n : ℕ) → a ≤ u → x ≤ n → a * x ≤ u * n
-        most a x u n h k = grind arith
-
-        abs_sum : (s t : ℤ) → unsigned_abs (s +ℤ t) ≤ unsigned_abs s + unsigned_abs t
-        abs_sum s t = omega (arith, ints)
-
--- 1 beyond a bound
-beyond_over : (s : ℤ) (d : ℕ) → 0 < d → ratio s d +ℚ whole (pos 1) ≡ ratio (s +ℤ pos d) d
-beyond_over s d p = ap (λ t. ratio s d +ℚ t) (over-whole (pos 1) d p ∙ ap (λ t. ratio t d) (let z : pos 1 *ℤ pos d ≡ pos d = omega (arith, ints) in z)) ∙ over-+ℚ s d (pos d) p

@@ -1,11 +1,10 @@
 -- One more coordinate over a common denominator: how its bounds and itself are written, and that their numbers fit.
 use Rattle.std.proofs.Common.{◌≡◌, ℕ, zero, suc, ◌+◌, ◌*◌, ◌/◌, ◌<◌, ◌≤◌, ◌^◌, true, List, [], ◌∷◌, refl, sym, ap, ap₂, ◌∙◌, subst, arith}
-use Rattle.std.specs.Prelude.{ℤ, pos, negsuc, neg_ℤ, ◌+ℤ◌, ◌*ℤ◌, unsigned_abs, nat_le}
+use Rattle.std.specs.Prelude.{ℤ, pos, negsuc, neg_ℤ, ◌+ℤ◌, ◌*ℤ◌, unsigned_abs}
 use Rattle.std.specs.List.{list_all}
 use Rattle.std.specs.Int.{◌∣◌}
 use Rattle.std.proofs.Math.Nat.{div-mul_cancel, eq_of_mul-eq-mul_right, mul-div-le}
-use Rattle.std.proofs.lemmas.Nat.{le-div}
-use Rattle.std.proofs.lemmas.Bool.Decides.{nat_tests}
+use Rattle.std.proofs.lemmas.Nat.{le-div, mul-le}
 use Rattle.std.proofs.lemmas.Int.{ints, unsigned_abs-mul}
 use Rattle.crn_fraction.specs.Parts.{num-whole, den-whole}
 use Rattle.crn_fraction.specs.Rational.{ℚ, ratio, whole, neg_ℚ, inverse_ℚ, turned, ◌+ℚ◌, ◌*ℚ◌, ◌/ℚ◌}
@@ -13,26 +12,21 @@ use Rattle.crn_fraction.proofs.Core.{ratio_cross, ratio_same}
 use Rattle.crn_fraction.proofs.Integers.{ring_ℤ, z-writes}
 use Rattle.crn_fraction.proofs.Ratios.{ratio-*ℚ, over-+ℚ, times_pos, neg_ℚ-ratio}
 use Rattle.crn_fraction.proofs.Products.{/ℚ-is}
+use Rattle.crn_fraction.proofs.Lowest.{den-divides, num-shrinks, den-shrinks}
 use Rattle.crn_feasible.specs.Elimination.{fits, fits_ℚ, numerators_over}
 use Rattle.crn_linear.specs.Cleared.{common_den}
 use Rattle.crn_feasible.proofs.Orders.{Each}
-use Rattle.crn_feasible.proofs.PointSizes.{IsOver, num_most, den_most, common_den_most, den_divides}
+use Rattle.crn_feasible.proofs.PointSizes.{IsOver, common_den_most}
+use Rattle.crn_feasible.proofs.SmallRatios.{fits_small}
+use Rattle.crn_feasible.proofs.Bounds.{times_le, abs_sum}
 
 -- ---- the tests
-fits_below : (z : ℤ) → unsigned_abs z ≤ 2 ^ 59 → fits z ≡ true
-fits_below z h = below (unsigned_abs z) h
-  where
-    below : (m : ℕ) → m ≤ 2 ^ 59 → nat_le m (2 ^ 59) ≡ true
-    below m l = grind (arith, nat_tests)
 
 pub fits_over : (d n : ℕ) (q : ℚ) → 0 < d → d ≤ 2 ^ 59 → n ≤ 2 ^ 59 → IsOver d n q → fits_ℚ q ≡ true
 fits_over d n q p hd hn o =
-    let a : unsigned_abs q.num ≤ 2 ^ 59 = let l = num_most o.top d p in let e = ap (λ (t : ℚ). unsigned_abs t.num) o.is in omega (arith, l, e, o.size) in
-    let b : q.den ≤ 2 ^ 59 = let l = den_most o.top d p in let e = ap (λ (t : ℚ). t.den) o.is in omega (arith, l, e) in
-    rw (fits_below q.num a) (fits_below (pos q.den) b)
-
-times_le : (a b c : ℕ) → b ≤ c → a * b ≤ a * c
-times_le a b c h = grind arith
+    let a : unsigned_abs q.num ≤ 2 ^ 59 = let l = num-shrinks o.top d p in let e = ap (λ (t : ℚ). unsigned_abs t.num) o.is in omega (arith, l, e, o.size) in
+    let b : q.den ≤ 2 ^ 59 = let l = den-shrinks o.top d p in let e = ap (λ (t : ℚ). t.den) o.is in omega (arith, l, e) in
+    rw (fits_small q.num a) (fits_small (pos q.den) b)
 
 parts : (d e big : ℕ) → d ≤ big → (d / e) * e ≤ big
 parts d e big h = let l = mul-div-le d e in omega (arith, l)
@@ -57,16 +51,16 @@ numerator_most d big n q p o h l =
 numerators_fit : (d big n : ℕ) (qs : List ℚ) → 0 < big → n ≤ 2 ^ 59 → d ≤ big → Each (IsOver big n) qs → list_all fits (numerators_over d qs) ≡ true
 numerators_fit d big n [] p h l o = refl
 numerators_fit d big n (q ∷ qs) p h l o =
-    let div : q.den ∣ big = subst (λ (t : ℚ). t.den ∣ big) (sym o.0.is) (den_divides o.0.top big p) in
+    let div : q.den ∣ big = subst (λ (t : ℚ). t.den ∣ big) (sym o.0.is) (den-divides o.0.top big p) in
     let m = numerator_most d big n q p o.0 div l in
-    rw (fits_below (q.num *ℤ pos (d / q.den)) (omega (arith, m))) (numerators_fit d big n qs p h l o.1)
+    rw (fits_small (q.num *ℤ pos (d / q.den)) (omega (arith, m))) (numerators_fit d big n qs p h l o.1)
 
 -- coordinates over a small denominator, with small numerators, pass no limit
 pub all_fit_over : (big n : ℕ) (qs : List ℚ) → 0 < big → big ≤ 2 ^ 59 → n ≤ 2 ^ 59 → Each (IsOver big n) qs
     → list_all fits (pos (common_den qs) ∷ numerators_over (common_den qs) qs) ≡ true
 all_fit_over big n qs p h k o =
     let l = common_den_most big n qs p o in
-    rw (fits_below (pos (common_den qs)) (omega (arith, l))) (numerators_fit (common_den qs) big n qs p k l o)
+    rw (fits_small (pos (common_den qs)) (omega (arith, l))) (numerators_fit (common_den qs) big n qs p k l o)
 
 -- ---- quotients by whole numbers
 turned_low : (n : ℕ) → inverse_ℚ (whole (pos (suc n))) ≡ ratio (pos 1) (suc n)
@@ -148,15 +142,9 @@ middle_over d s e l u p a b = record {
   size = sizes a.top b.top a.part b.part s e a.size b.size a.most b.most;
 }
   where
-    most : (a x u n : ℕ) → a ≤ u → x ≤ n → a * x ≤ u * n
-    most a x u n h k = grind arith
-
-    abs_sum : (s t : ℤ) → unsigned_abs (s +ℤ t) ≤ unsigned_abs s + unsigned_abs t
-    abs_sum s t = omega (arith, ints)
-
     sizes : (x y : ℤ) (m n s e : ℕ) → unsigned_abs x ≤ s → unsigned_abs y ≤ s → m ≤ e → n ≤ e → unsigned_abs (x *ℤ pos n +ℤ y *ℤ pos m) ≤ s * e + s * e
     sizes x y m n s e hx hy hm hn =
         let g = abs_sum (x *ℤ pos n) (y *ℤ pos m) in
-        let i = most (unsigned_abs x) n s e hx hn in
-        let j = most (unsigned_abs y) m s e hy hm in
+        let i = mul-le (unsigned_abs x) n s e hx hn in
+        let j = mul-le (unsigned_abs y) m s e hy hm in
         omega (arith, g, i, j, unsigned_abs-mul x (pos n), unsigned_abs-mul y (pos m))

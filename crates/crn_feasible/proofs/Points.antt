@@ -9,9 +9,11 @@ use Rattle.std.proofs.Math.Nat.{zero-div}
 use Rattle.std.proofs.lemmas.Int.{ints}
 use Rattle.std.proofs.lemmas.Bool.Decides.{Decides-int_eq}
 use Rattle.std.proofs.lemmas.List.Elements.{All-cons, All-head, All-tail}
+use Rattle.std.proofs.lemmas.Bool.{both_ways}
 use Rattle.crn_fraction.specs.Rational.{ℚ, whole, ◌*ℚ◌}
 use Rattle.crn_fraction.proofs.Integers.{ring_ℤ, z-writes}
 use Rattle.crn_fraction.proofs.Ring.{ring_ℚ, q-writes}
+use Rattle.crn_fraction.proofs.Products.{whole-positive}
 use Rattle.crn_linear.specs.Forms.{entry_of, wholes}
 use Rattle.crn_linear.proofs.Denominators.{den-dvd-common_den, common_den-positive}
 use Rattle.crn_linear.proofs.Multiples.{numerator_is}
@@ -21,7 +23,7 @@ use Rattle.crn_farkas.specs.Systems.{System, IsRectangular, IsWholePoint}
 use Rattle.crn_feasible.specs.Elimination.{passes, Kept, after, over, reduced, divisor, is_zero, take_rows, entry, zeros, positives, negatives, combined, without, bound, between, numerators_over, next, coordinates, started, elimination}
 use Rattle.crn_linear.specs.Cleared.{common_den}
 use Rattle.crn_farkas.proofs.Mixing.{get_or-mixed}
-use Rattle.crn_feasible.proofs.Orders.{Each, Each-weaker, whole-positive, positive_times}
+use Rattle.crn_feasible.proofs.Orders.{Each, Each-weaker, positive_times}
 use Rattle.crn_feasible.proofs.Between.{Each-both, Each-map}
 use Rattle.crn_feasible.proofs.Taking.{Met, NonZero, after-ok, Each-append, rows_kept, rows_nonzero, rows_met, test_from_zeros}
 use Rattle.crn_feasible.proofs.Columns.{Each-passes, Each-filter, column_met}
@@ -102,10 +104,7 @@ all_zero (x ∷ r) h = (h zero (omega arith), all_zero r (λ i l. h (suc i) (ome
 
 no_column : (xs : List ℚ) (k : Kept) → NonZero k → ZeroFrom zero k → Met xs k
 unfolding NonZero ZeroFrom
-no_column xs k n z = let t : list_all (λ x. int_eq x (pos 0)) k.row.entries ≡ true = test_from_zeros k.row.entries (all_zero k.row.entries z) in absurd (differ _ t n)
-  where
-    differ : (b : Bool) → b ≡ true → b ≡ false → ⊥
-    differ b e f = cc
+no_column xs k n z = let t : list_all (λ x. int_eq x (pos 0)) k.row.entries ≡ true = test_from_zeros k.row.entries (all_zero k.row.entries z) in absurd (both_ways _ n t)
 
 length-push : (xs : List ℚ) (x : ℚ) (v : ℕ) → length xs ≡ v → length (xs ++ x ∷ []) ≡ suc v
 length-push [] x v h = ap suc h

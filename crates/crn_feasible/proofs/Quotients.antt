@@ -1,12 +1,12 @@
 -- The division of a 128-bit number, as the code computes it.
-use Rattle.std.proofs.Common.{◌≡◌, ⊎_elim, ℕ, zero, suc, ◌<◌, ◌≤◌, ◌^◌, Bool, true, false, List, [], ◌∷◌, length, get_or, refl, sym, ap, ap₂, ◌∙◌, arith, to_z, of_z, SFits}
-use Rattle.std.specs.Prelude.{ℤ, pos, negsuc, unsigned_abs, int_div, neg_ℤ, ◌+ℤ◌, ◌*ℤ◌, nat_le, ◌/◌, ◌&&◌}
+use Rattle.std.proofs.Common.{◌≡◌, ⊎_elim, ℕ, zero, suc, ◌<◌, ◌≤◌, ◌^◌, false, List, [], ◌∷◌, length, get_or, refl, sym, ap, ap₂, ◌∙◌, arith, to_z, of_z, SFits}
+use Rattle.std.specs.Prelude.{ℤ, pos, negsuc, unsigned_abs, int_div, neg_ℤ, ◌+ℤ◌, ◌*ℤ◌, ◌/◌, ◌&&◌}
 use Rattle.std.specs.List.{list_all}
 use Rattle.std.specs.Int.{w64, w128}
-use Rattle.std.proofs.Math.Nat.{div-zero, div-one, div-le_self, eq-zero-or-pos}
+use Rattle.std.proofs.Math.Nat.{div-zero, div-le_self, eq-zero-or-pos}
 use Rattle.crn_fraction.specs.Rational.{unsigned_abs-int_div}
-use Rattle.std.proofs.lemmas.Bool.Decides.{nat_tests}
 use Rattle.std.proofs.lemmas.Int.{ints, to_z-of_z, quot_fits, fits_signed_from_abs}
+use Rattle.std.proofs.lemmas.Bool.{and_right, lt-leb}
 use Rattle.crn_linear.specs.Rows.{IsSmall}
 use Rattle.crn_feasible.specs.Elimination.{fits, over}
 use Rattle.crn_farkas.specs.Mixtures.{mixed}
@@ -39,10 +39,7 @@ pub small_zero : IsSmall (pos 0)
 small_zero = record { size = omega arith }
 
 pub too_big : (q r : ℤ) (m : ℕ) → m ≡ unsigned_abs r → r ≡ q → 2 ^ 59 < m → fits q ≡ false
-too_big q r m e f h = let l : 2 ^ 59 < unsigned_abs q = omega (arith, h, e, ap unsigned_abs f) in not_le (unsigned_abs q) l
-  where
-    not_le : (n : ℕ) → 2 ^ 59 < n → nat_le n (2 ^ 59) ≡ false
-    not_le n l = grind (arith, nat_tests)
+too_big q r m e f h = let l : 2 ^ 59 < unsigned_abs q = omega (arith, h, e, ap unsigned_abs f) in lt-leb (unsigned_abs q) (2 ^ 59) l
 
 pub low_fits : (q r : ℤ) (m : ℕ) → m ≡ unsigned_abs r → r ≡ q → m ≤ 2 ^ 59 → SFits w64 r
 low_fits q r m e f h = fits_signed_from_abs w64 r (omega (arith, e))
@@ -53,14 +50,11 @@ low_is q r m e f h =
     (back ∙ f, record { size = omega (arith, ap unsigned_abs back, e) })
 
 -- ---- a row, number by number
-and_false : (a b : Bool) → b ≡ false → (a && b) ≡ false
-and_false true b h = h
-and_false false b h = refl
 
 pub false_at : (xs : List ℤ) (i : ℕ) → i < length xs → fits (get_or xs i (pos 0)) ≡ false → list_all fits xs ≡ false
 false_at [] i l h = absurd (omega arith)
 false_at (x ∷ xs) zero l h = ap (λ t. t && list_all fits xs) h
-false_at (x ∷ xs) (suc i) l h = and_false (fits x) (list_all fits xs) (false_at xs i (omega arith) h)
+false_at (x ∷ xs) (suc i) l h = and_right (fits x) (list_all fits xs) (false_at xs i (omega arith) h)
 
 pub refused_at : (a b : ℤ) (p n : List ℤ) (g i : ℕ) (x : ℤ) → length p ≡ length n → i < length p
     → x ≡ a *ℤ get_or p i (pos 0) +ℤ b *ℤ get_or n i (pos 0) → fits (int_div x (pos g)) ≡ false → list_all fits (over g (mixed a p b n)) ≡ false
@@ -75,7 +69,3 @@ pub quotient_small : (z : ℤ) (g : ℕ) → unsigned_abs z ≤ 2 ^ 59 → unsig
 quotient_small z g h =
     let l = div-le_self (unsigned_abs z) g in
     omega (arith, h, l, unsigned_abs-int_div z g)
-
-pub over-one : (z : ℤ) → int_div z (pos 1) ≡ z
-over-one (pos n) = ap pos (div-one n)
-over-one (negsuc n) = ap (λ k. neg_ℤ (pos k)) (div-one (suc n))

@@ -1,12 +1,12 @@
 -- The bounds that rows set, row by row.
 use Rattle.std.proofs.Common.{◌≡◌, ℕ, zero, suc, ◌+◌, ◌<◌, ◌≤◌, Bool, true, false, cond, ◌&&◌, List, [], ◌∷◌, ◌++◌, length, get_or, take, drop, map, refl, sym, ap, ap₂, ◌∙◌, arith, append_assoc}
-use Rattle.std.proofs.lemmas.Int.{ints}
-use Rattle.std.specs.Prelude.{ℤ, pos, is_ok, if◌then◌else◌}
+use Rattle.std.specs.Prelude.{ℤ, is_ok, if◌then◌else◌}
 use Rattle.std.specs.Result.{is_err}
 use Rattle.std.proofs.Common.{Result, Ok, Err}
 use Rattle.std.specs.List.{list_all}
-use Rattle.std.proofs.lemmas.List.{take_more, take-append-drop}
+use Rattle.std.proofs.lemmas.List.{take_more, take-append-drop, append-nil}
 use Rattle.std.proofs.lemmas.List.Folds.{list_all-append}
+use Rattle.std.proofs.lemmas.Bool.{and_right, and_left, both_ways}
 use Rattle.crn_fraction.specs.Rational.{ℚ, whole, neg_ℚ, ◌+ℚ◌, ◌*ℚ◌, ◌/ℚ◌}
 use Rattle.crn_linear.specs.Rows.{value}
 use Rattle.crn_feasible.specs.declared.rows.KeptRow.{KeptRow}
@@ -37,10 +37,6 @@ map-append : {A B : Type 0} (f : A → B) (xs ys : List A) → map f (xs ++ ys) 
 map-append f [] ys = refl
 map-append f (x ∷ xs) ys = ap (λ t. f x ∷ t) (map-append f xs ys)
 
-pub append-nil : {A : Type 0} (xs : List A) → xs ++ [] ≡ xs
-append-nil [] = refl
-append-nil (x ∷ xs) = ap (λ t. x ∷ t) (append-nil xs)
-
 module _ (positive : Bool) (columns sources v : ℕ) (xs : List ℚ) (rows : List KeptRow) (i : ℕ) (r : KeptRow) (l : i < length rows) (e : r ≡ get_or rows i r) where
   abbrev so_far : ℕ → List ℚ
   so_far n = bounds positive v xs (map (kept_of columns sources) (take n rows))
@@ -52,13 +48,6 @@ module _ (positive : Bool) (columns sources v : ℕ) (xs : List ℚ) (rows : Lis
       ∙ ap (bounds positive v xs) (map-append (kept_of columns sources) (take i rows) (r ∷ []))
       ∙ bounds-append positive v xs (map (kept_of columns sources) (take i rows)) (kept_of columns sources r ∷ [])
       ∙ ap (λ t. so_far i ++ t) (bounds-cons positive v xs (kept_of columns sources r) [] ∙ append-nil (bound_part positive v xs (kept_of columns sources r)))
-
-  and_left : (a b : Bool) → a ≡ false → (a && b) ≡ false
-  and_left a b h = ap (λ t. t && b) h
-
-  and_right : (a b : Bool) → b ≡ false → (a && b) ≡ false
-  and_right true b h = h
-  and_right false b h = refl
 
   -- a bound that is too big
   pub bound_missed : (q : ℚ) → bound_part positive v xs (kept_of columns sources r) ≡ q ∷ [] → fits_ℚ q ≡ false → list_all fits_ℚ (bounds positive v xs (map (kept_of columns sources) rows)) ≡ false
@@ -92,14 +81,8 @@ bound_of columns sources v xs r z h l e =
     ap₂ (λ t w. neg_ℚ t /ℚ whole w) (value_cut v columns r.entries xs (omega (arith, l)) (omega (arith, l, h))) e
 
 -- ---- entries that are not on the side are no divisors
-pub on_side : (positive : Bool) (z : ℤ) → is_on positive z ≡ true → z ≡ pos 0 → ⊥
-on_side true z h e = omega (arith, ints)
-on_side false z h e = omega (arith, ints)
 
 -- a push that went well
 pub pushed : {X T E : Type 0} (r : Result T E) (new old : List X) (x : X) (b : Bool) → new ≡ (if is_ok r then old ++ x ∷ [] else old) → b ≡ is_err r → b ≡ false → new ≡ old ++ x ∷ []
 pushed (Ok t) new old x b h e f = h
-pushed (Err t) new old x b h e f = absurd (differ b e f)
-  where
-    differ : (b : Bool) → b ≡ true → b ≡ false → ⊥
-    differ b e f = cc
+pushed (Err t) new old x b h e f = absurd (both_ways b f e)

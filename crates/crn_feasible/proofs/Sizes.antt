@@ -1,16 +1,18 @@
 -- How large the numbers of the rows become, and that small ones pass no limit.
 use Rattle.std.proofs.Common.{◌≡◌, ⊎_elim, ℕ, zero, suc, ◌+◌, ◌*◌, ◌/◌, ◌≤◌, ◌^◌, Bool, true, false, cond, not, List, [], ◌∷◌, ◌++◌, get_or, map, Result, Ok, Err, refl, arith}
-use Rattle.std.specs.Prelude.{ℤ, pos, neg_ℤ, ◌+ℤ◌, ◌*ℤ◌, unsigned_abs, nat_le}
+use Rattle.std.specs.Prelude.{ℤ, pos, neg_ℤ, ◌+ℤ◌, ◌*ℤ◌, unsigned_abs}
 use Rattle.std.specs.List.{list_all}
 use Rattle.std.proofs.Math.Nat.{div-le_self}
-use Rattle.std.proofs.lemmas.Bool.Decides.{nat_tests}
 use Rattle.std.proofs.lemmas.Int.{ints, unsigned_abs-mul}
+use Rattle.std.proofs.lemmas.Bool.{both_ways, le-leb}
+use Rattle.std.proofs.lemmas.Nat.{mul-le}
 use Rattle.crn_fraction.specs.Rational.{unsigned_abs-int_div}
 use Rattle.crn_feasible.specs.Elimination.{Stop, refuted, passes, too_many, Kept, fits, over, reduced, divisor, is_zero, combined, entry, take_row, take_rows, without}
 use Rattle.crn_farkas.specs.Mixtures.{mixed}
 use Rattle.crn_feasible.proofs.Orders.{Each, Each-weaker}
 use Rattle.crn_feasible.proofs.Taking.{after-err, rows_kept}
 use Rattle.crn_feasible.proofs.Points.{Each-without}
+use Rattle.crn_feasible.proofs.Bounds.{abs_sum}
 
 -- at most n in size
 pub record IsWithin (n : ℕ) (z : ℤ) : Type 0 where
@@ -38,15 +40,10 @@ Sized-reduced e m k h = record {
 }
 
 -- ---- combinations
-times_most : (a x u n : ℕ) → a ≤ u → x ≤ n → a * x ≤ u * n
-times_most a x u n h k = grind arith
-
-abs_sum : (s t : ℤ) → unsigned_abs (s +ℤ t) ≤ unsigned_abs s + unsigned_abs t
-abs_sum s t = omega (arith, ints)
 
 times_within : (a x : ℤ) (u n : ℕ) → unsigned_abs a ≤ u → IsWithin n x → IsWithin (u * n) (a *ℤ x)
 times_within a x u n h k =
-    let l = times_most (unsigned_abs a) (unsigned_abs x) u n h k.size in
+    let l = mul-le (unsigned_abs a) (unsigned_abs x) u n h k.size in
     record { size = omega (arith, l, unsigned_abs-mul a x) }
 
 sum_within : (s t : ℤ) (n : ℕ) → IsWithin n s → IsWithin n t → IsWithin (n + n) (s +ℤ t)
@@ -88,10 +85,7 @@ Sized-combined e m v p n h k =
 
 -- ---- no limit is passed
 fits_within : (n : ℕ) (z : ℤ) → n ≤ 2 ^ 59 → IsWithin n z → fits z ≡ true
-fits_within n z h k = below (unsigned_abs z) (omega (arith, k.size))
-  where
-    below : (m : ℕ) → m ≤ 2 ^ 59 → nat_le m (2 ^ 59) ≡ true
-    below m l = grind (arith, nat_tests)
+fits_within n z h k = le-leb (unsigned_abs z) (2 ^ 59) (omega (arith, k.size))
 
 all_within : (n : ℕ) (xs : List ℤ) → n ≤ 2 ^ 59 → Each (IsWithin n) xs → list_all fits xs ≡ true
 all_within n [] h k = refl
@@ -110,13 +104,10 @@ passes_by true false s true m rows r h = cc
 passes_by true false s false true rows r h = cc
 passes_by true false s false false rows r h = cc
 
-differ : (b : Bool) → b ≡ true → b ≡ false → ⊥
-differ b h k = cc
-
 pub row_within : (e m : ℕ) (rows : List Kept) (k : Kept) → e ≤ 2 ^ 59 → m ≤ 2 ^ 59 → Sized e m k → take_row rows k ≡ Err passes → ⊥
 row_within e m rows k he hm h p =
     let s = Sized-reduced e m k h in
-    differ _ (two_within e m (reduced k).row.entries (reduced k).multipliers he hm s.entries s.multipliers) (passes_by _ _ _ _ _ rows (reduced k) p)
+    both_ways _ (passes_by _ _ _ _ _ rows (reduced k) p) (two_within e m (reduced k).row.entries (reduced k).multipliers he hm s.entries s.multipliers)
 
 none_passes : (rows : List Kept) → ◌≡◌ {A = Result (List Kept) Stop} (Ok rows) (Err passes) → ⊥
 none_passes rows h = cc

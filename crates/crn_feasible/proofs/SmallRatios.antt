@@ -1,8 +1,8 @@
 -- Quotients of whole numbers whose lowest terms are at most 2^59 in size.
-use Rattle.std.proofs.Common.{◌≡◌, ℕ, ◌/◌, ◌<◌, ◌≤◌, ◌^◌, Bool, true, false, ◌&&◌, Result, Ok, Err, Option, refl, sym, ap, ap₂, ◌∙◌, subst, arith}
-use Rattle.std.specs.Prelude.{ℤ, pos, unsigned_abs, int_div, nat_le, MatchOption}
+use Rattle.std.proofs.Common.{◌≡◌, ℕ, ◌/◌, ◌<◌, ◌≤◌, ◌^◌, true, false, ◌&&◌, Result, Ok, Err, Option, sym, ap, ap₂, ◌∙◌, subst, arith}
+use Rattle.std.specs.Prelude.{ℤ, pos, unsigned_abs, int_div, MatchOption}
 use Rattle.std.specs.Result.{OkIff, result_ok}
-use Rattle.std.proofs.lemmas.Bool.Decides.{nat_tests}
+use Rattle.std.proofs.lemmas.Bool.{and_right, and_left, le-leb}
 use Rattle.crn_fraction.specs.Gcd.{gcd}
 use Rattle.crn_fraction.specs.Frac.{IsFrac}
 use Rattle.crn_fraction.specs.Rational.{ℚ, ratio, whole, ◌/ℚ◌}
@@ -11,13 +11,6 @@ use Rattle.crn_fraction.proofs.Lowest.{reduced_parts}
 use Rattle.crn_linear.specs.Rows.{IsSmall}
 use Rattle.crn_linear.proofs.Wides.{parts_small, whole_quotient}
 use Rattle.crn_feasible.specs.Elimination.{fits, fits_ℚ}
-
-and_left : (a b : Bool) → a ≡ false → (a && b) ≡ false
-and_left a b h = ap (λ t. t && b) h
-
-and_right : (a b : Bool) → b ≡ false → (a && b) ≡ false
-and_right true b h = h
-and_right false b h = refl
 
 -- a numerator that is too big
 pub num_passes : (n : ℤ) (d : ℕ) → 0 < d → fits (int_div n (pos (gcd (unsigned_abs n) d))) ≡ false → fits_ℚ (ratio n d) ≡ false
@@ -28,10 +21,7 @@ pub den_passes : (n : ℤ) (d : ℕ) → 0 < d → fits (int_div (pos d) (pos (g
 den_passes n d p h = and_right (fits (ratio n d).num) (fits (pos (ratio n d).den)) (ap (λ k. fits (pos k)) (den-ratio n d p) ∙ h)
 
 pub fits_small : (z : ℤ) → unsigned_abs z ≤ 2 ^ 59 → fits z ≡ true
-fits_small z h = below (unsigned_abs z) h
-  where
-    below : (m : ℕ) → m ≤ 2 ^ 59 → nat_le m (2 ^ 59) ≡ true
-    below m l = grind (arith, nat_tests)
+fits_small z h = le-leb (unsigned_abs z) (2 ^ 59) h
 
 -- small lowest terms
 pub fits_parts : (q : ℚ) → unsigned_abs q.num ≤ 2 ^ 59 → q.den ≤ 2 ^ 59 → fits_ℚ q ≡ true

@@ -2,7 +2,7 @@
 use Rattle.std.proofs.Common.{◌≡◌, ◌⊎◌, ⊎_elim, inl, inr, ℕ, zero, suc, ◌+◌, ◌-◌, ◌<◌, ◌≤◌, Bool, true, false, cond, ◌&&◌, ◌==◌, List, [], ◌∷◌, ◌++◌, length, get_or, take, drop, map, refl, sym, ap, ap₂, ◌∙◌, subst, arith, append_assoc, length-drop, drop-cons}
 use Rattle.std.specs.Prelude.{ℤ, pos, ◌+ℤ◌, ◌*ℤ◌, int_div, nat_lt, replicate}
 use Rattle.std.specs.List.{fold, list_all}
-use Rattle.std.proofs.lemmas.Bool.{eqb-true, eq-eqb, cases_order}
+use Rattle.std.proofs.lemmas.Bool.{eqb-true, eq-eqb, cases_order, both_ways}
 use Rattle.std.proofs.lemmas.Bool.Decides.{nat_tests, eqb_tells}
 use Rattle.std.proofs.lemmas.Int.{ints}
 use Rattle.std.proofs.lemmas.List.{take_more, take_all, drop_all, append-nil, map-append}
@@ -29,21 +29,16 @@ spread-suc from n (m ∷ ms) = by (m.0 == from)
     by false = refl
 
 -- ---- their order
-at_place : (m n : ℕ) → (m == n) ≡ true → m ≡ n
-at_place m n h = eqb-true m n h
 
 past_place : (m n : ℕ) → n ≤ m → (m == n) ≡ false → suc n ≤ m
-past_place m n l h = ⊎_elim (λ t. absurd (both (m == n) t.0 h)) (λ t. omega (arith, t.1)) (eqb_tells m n)
-  where
-    both : (b : Bool) → b ≡ true → b ≡ false → ⊥
-    both b t f = cc
+past_place m n l h = ⊎_elim (λ t. absurd (both_ways (m == n) h t.0)) (λ t. omega (arith, t.1)) (eqb_tells m n)
 
 after_ascends : (from to : ℕ) (ms : List (ℕ × ℤ)) → Ascend from to ms → Ascend (suc from) to (after from ms)
 after_ascends from to [] h = tt
 after_ascends from to (m ∷ ms) h = by (m.0 == from) refl
   where
     by : (b : Bool) → (m.0 == from) ≡ b → Ascend (suc from) to (cond b ms (m ∷ ms))
-    by true e = subst (λ k. Ascend (suc k) to ms) (at_place m.0 from e) h.2
+    by true e = subst (λ k. Ascend (suc k) to ms) (eqb-true m.0 from e) h.2
     by false e = (past_place m.0 from h.0 e, h.1, h.2)
 
 -- ---- tests and sums of them

@@ -1,5 +1,6 @@
 -- What it says that rows were taken into a list.
-use Rattle.std.proofs.Common.{◌≡◌, ◌⊎◌, ⊎_elim, inl, inr, ℕ, ◌<◌, Bool, true, false, cond, not, ◌&&◌, ◌||◌, List, [], ◌∷◌, ◌++◌, Result, Ok, Err, refl, sym, ap, ◌∙◌, subst, arith}
+use Rattle.std.proofs.Common.{◌≡◌, ◌⊎◌, ⊎_elim, inl, inr, ℕ, ◌<◌, Bool, true, false, cond, not, List, [], ◌∷◌, ◌++◌, Result, Ok, Err, refl, sym, ap, ◌∙◌, subst, arith}
+use Rattle.std.proofs.lemmas.Bool.{and_parts, or_cases}
 use Rattle.std.specs.Prelude.{ℤ, pos, negsuc, unsigned_abs, int_div}
 use Rattle.std.specs.List.{list_any, list_all}
 use Rattle.std.specs.Ordering.{int_eq}
@@ -12,11 +13,12 @@ use Rattle.std.proofs.lemmas.Bool.Decides.{Decides-int_eq}
 use Rattle.crn_fraction.specs.Rational.{ℚ, whole, ◌*ℚ◌, ◌≤ℚ◌, ◌<ℚ◌}
 use Rattle.crn_fraction.proofs.Order.{≤ℚ_refl}
 use Rattle.crn_fraction.proofs.Ring.{ring_ℚ, q-writes}
+use Rattle.crn_fraction.proofs.Products.{whole-positive}
 use Rattle.crn_linear.specs.Rows.{Meets, IsBelow, value}
 use Rattle.crn_feasible.specs.Elimination.{Stop, refuted, passes, too_many, Kept, after, common, over, divisor, reduced, is_zero, direction, same_direction, take_row, take_rows}
 use Rattle.crn_feasible.proofs.Divisors.{Divides, Divides-common, Divides-left, over-back}
 use Rattle.crn_farkas.proofs.Mixing.{value-times}
-use Rattle.crn_feasible.proofs.Orders.{Each, whole-positive, positive_times, positive_of_times}
+use Rattle.crn_feasible.proofs.Orders.{Each, positive_times, positive_of_times}
 
 -- ---- steps
 pub after-ok : {A B : Type 0} (r : Result A Stop) (f : A → Result B Stop) (b : B) → after r f ≡ Ok b → (a : A) × (r ≡ Ok a) × (f a ≡ Ok b)
@@ -82,12 +84,8 @@ zero_test x h = (Decides-int_eq x (pos 0)).0 h
 pub zeros_from_test : (xs : List ℤ) → list_all (λ x. int_eq x (pos 0)) xs ≡ true → Each (λ x. x ≡ pos 0) xs
 zeros_from_test [] h = tt
 zeros_from_test (x ∷ xs) h =
-    let both = and_true (int_eq x (pos 0)) (list_all (λ x. int_eq x (pos 0)) xs) h in
+    let both = and_parts (int_eq x (pos 0)) (list_all (λ x. int_eq x (pos 0)) xs) h in
     (zero_test x both.0, zeros_from_test xs both.1)
-  where
-    and_true : (a b : Bool) → (a && b) ≡ true → (a ≡ true) × (b ≡ true)
-    and_true true b h = (refl, h)
-    and_true false b h = cc
 
 pub test_from_zeros : (xs : List ℤ) → Each (λ x. x ≡ pos 0) xs → list_all (λ x. int_eq x (pos 0)) xs ≡ true
 test_from_zeros [] h = refl
@@ -159,10 +157,6 @@ meets_zero k xs z s =
     subst (λ b. IsBelow b (whole (pos 0)) (value k.row.entries xs)) (sym s)
     (subst (λ t. whole (pos 0) ≤ℚ t) (sym v) (≤ℚ_refl (whole (pos 0))))
 
-and_both : (a b : Bool) → (a && b) ≡ true → (a ≡ true) × (b ≡ true)
-and_both true b h = (refl, h)
-and_both false b h = cc
-
 beq_same : (a b : Bool) → beq a b ≡ true → a ≡ b
 beq_same true true h = refl
 beq_same true false h = cc
@@ -172,7 +166,7 @@ beq_same false false h = refl
 pub same_parts_of : (a b : Kept) → same_direction a b ≡ true → (direction a.row.entries ≡ direction b.row.entries) × (a.row.strict ≡ b.row.strict)
 unfolding same_direction
 same_parts_of a b h =
-    let both = and_both (pointwise int_eq (direction a.row.entries) (direction b.row.entries)) (beq a.row.strict b.row.strict) h in
+    let both = and_parts (pointwise int_eq (direction a.row.entries) (direction b.row.entries)) (beq a.row.strict b.row.strict) h in
     ((signed_items (direction a.row.entries) (direction b.row.entries)).0 both.0, beq_same a.row.strict b.row.strict both.1)
 
 value-direction : (r : List ℤ) (xs : List ℚ) → value r xs ≡ whole (pos (common r)) *ℚ value (direction r) xs
@@ -194,10 +188,6 @@ meets_same a b xs za zb e h =
 
 unfoldable pub NonZero : Kept → Type 0
 NonZero k = is_zero k ≡ false
-
-or_cases : (a b : Bool) → (a || b) ≡ true → (a ≡ true) ⊎ (b ≡ true)
-or_cases true b h = inl refl
-or_cases false b h = inr h
 
 pub meets_among : (r : Kept) (rows : List Kept) (xs : List ℚ) → is_zero r ≡ false → list_any (same_direction r) rows ≡ true
     → Each NonZero rows → Each (λ k. Meets k.row xs) rows → Meets r.row xs

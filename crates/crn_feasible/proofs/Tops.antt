@@ -1,7 +1,6 @@
 -- The values over a common denominator, value by value.
-use Rattle.std.proofs.Common.{◌≡◌, ℕ, zero, suc, ◌+◌, ◌<◌, ◌≤◌, List, [], ◌∷◌, ◌++◌, length, get_or, take, refl, sym, ap, ap₂, ◌∙◌, arith, true, false, ◌&&◌, Bool}
-use Rattle.std.specs.Prelude.{ℤ, pos, nat_le, ◌^◌}
-use Rattle.std.proofs.lemmas.Bool.Decides.{nat_tests}
+use Rattle.std.proofs.Common.{◌≡◌, ℕ, zero, suc, ◌+◌, ◌<◌, ◌≤◌, List, [], ◌∷◌, ◌++◌, length, get_or, take, refl, sym, ap, ap₂, ◌∙◌, arith, true, false, ◌&&◌}
+use Rattle.std.specs.Prelude.{ℤ, pos, ◌^◌}
 use Rattle.crn_feasible.proofs.SmallRatios.{fits_small}
 use Rattle.crn_feasible.proofs.Lists.{all_fit}
 use Rattle.std.specs.List.{list_all}
@@ -30,21 +29,6 @@ tops_more d qs i q tops top l e f h =
 -- one that is too big
 pub top_missed : (d : ℕ) (qs : List ℚ) (i : ℕ) (q : ℚ) → i < length qs → q ≡ get_or qs i q → fits (numerator_over d q) ≡ false → list_all fits (numerators_over d qs) ≡ false
 top_missed d qs i q l e h = false_at (numerators_over d qs) i (omega (arith, l, length-tops d qs)) (ap fits (get_or-tops d qs i q l e) ∙ h)
-
--- a denominator that is too big
-pub den_missed : (d : ℕ) (tops : List ℤ) → 2 ^ 59 < d → list_all fits (pos d ∷ tops) ≡ false
-den_missed d tops h = ap (λ t. t && list_all fits tops) (above d h)
-  where
-    above : (n : ℕ) → 2 ^ 59 < n → nat_le n (2 ^ 59) ≡ false
-    above n l = grind (arith, nat_tests)
-
--- a numerator
-pub tops_missed : (d : ℕ) (tops : List ℤ) → list_all fits tops ≡ false → list_all fits (pos d ∷ tops) ≡ false
-tops_missed d tops h = by (fits (pos d)) (list_all fits tops) h
-  where
-    by : (a b : Bool) → b ≡ false → (a && b) ≡ false
-    by true b h = h
-    by false b h = refl
 
 -- neither
 pub all_small : (d : ℕ) (tops : List ℤ) → d ≤ 2 ^ 59 → AreSmall tops → list_all fits (pos d ∷ tops) ≡ true

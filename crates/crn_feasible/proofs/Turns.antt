@@ -8,7 +8,7 @@ use Rattle.std.proofs.Common.{of_z, to_z}
 use Rattle.std.specs.Int.{w64}
 use Rattle.crn_linear.specs.Rows.{IsSmall}
 use Rattle.std.proofs.lemmas.Bool.Decides.{Decides-int_eq}
-use Rattle.std.proofs.lemmas.List.{take_all, take_more, take-append-drop, length-take-le}
+use Rattle.std.proofs.lemmas.List.{take_all, take_more, take-append-drop, length-take-le, append-nil}
 use Rattle.crn_feasible.specs.declared.rows.Ending.{Ending}
 use Rattle.crn_feasible.specs.declared.rows.Ending.TheVariants.{Refuted, TooBig, TooManyRows, Memory}
 use Rattle.crn_feasible.specs.declared.rows.KeptRow.{KeptRow}
@@ -21,10 +21,6 @@ pub flat_map-append : {A B : Type 0} (f : A → List B) (xs ys : List A) → fla
 flat_map-append f [] ys = refl
 flat_map-append f (x ∷ xs) ys = ap (λ t. f x ++ t) (flat_map-append f xs ys) ∙ sym (append_assoc (f x) (flat_map f xs) (flat_map f ys))
 
-append-nil : {A : Type 0} (xs : List A) → xs ++ [] ≡ xs
-append-nil [] = refl
-append-nil (x ∷ xs) = ap (λ ys. x ∷ ys) (append-nil xs)
-
 -- what the rows that pass a test give
 pub flat_map-filter : {A B C : Type 0} (test : B → Bool) (g : B → List C) (f : A → B) (xs : List A) → flat_map (λ x. cond (test (f x)) (g (f x)) []) xs ≡ flat_map g (filter test (map f xs))
 flat_map-filter test g f [] = refl
@@ -34,10 +30,6 @@ flat_map-filter test g f (x ∷ xs) = by (test (f x)) (flat_map-filter test g f 
         → cond b (g (f x)) [] ++ flat_map (λ y. cond (test (f y)) (g (f y)) []) xs ≡ flat_map g (cond b (f x ∷ filter test (map f xs)) (filter test (map f xs)))
     by true h = ap (λ t. g (f x) ++ t) h
     by false h = h
-
-pub flat_map-single : {A B : Type 0} (h : A → B) (xs : List A) → flat_map (λ x. h x ∷ []) xs ≡ map h xs
-flat_map-single h [] = refl
-flat_map-single h (x ∷ xs) = ap (λ t. h x ∷ t) (flat_map-single h xs)
 
 pub flat_map-same : {A : Type 0} (xs : List A) → flat_map (λ x. x ∷ []) xs ≡ xs
 flat_map-same [] = refl
@@ -67,10 +59,6 @@ ends_after r f Memory h = tt
 
 pub ends_same : {A : Type 0} (r s : Result A Stop) (e : Ending) → r ≡ s → Ends r e → Ends s e
 ends_same r s e h k = subst (λ t. Ends t e) h k
-
--- one row
-pub take_one : (rows out : List Kept) (k : Kept) → take_row rows k ≡ Ok out → take_rows rows (k ∷ []) ≡ Ok out
-take_one rows out k h = ap (λ r. after r (λ more. take_rows more [])) h
 
 -- ---- in turn
 module _ {X : Type 0} (start : List Kept) (part : X → List Kept) (items : List X) where

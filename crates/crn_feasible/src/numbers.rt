@@ -10,43 +10,10 @@ ghost use Rattle.crn_farkas.specs.Mixtures.{mixed};
 ghost use Rattle.crn_feasible.specs.Elimination.{common, fits, fits_ℚ};
 
 use crn_fraction::Frac;
+use crn_fraction::divisors::wide_gcd;
 
 /// The greatest size of a number that is kept.
 pub const LIMIT: u128 = 1 << 59;
-
-/// The greatest common divisor. Only steps with longer numbers are made in 128 bits.
-pub fn gcd(a: u128, b: u128) -> u128
-    ensures { result ≡ gcd a b }
-{
-    if a <= u64::MAX as u128 && b <= u64::MAX as u128 {
-        return short_gcd(a as u64, b as u64) as u128;
-    }
-    let mut x = a;
-    let mut y = b;
-    while y > u64::MAX as u128 {
-        let rest = x % y;
-        x = y;
-        y = rest;
-    }
-    if y == 0 {
-        return x;
-    }
-    short_gcd(y as u64, (x % y) as u64) as u128
-}
-
-/// The same in 64 bits.
-pub fn short_gcd(a: u64, b: u64) -> u64
-    ensures { result ≡ gcd a b }
-{
-    let mut x = a;
-    let mut y = b;
-    while y != 0 {
-        let rest = x % y;
-        x = y;
-        y = rest;
-    }
-    x
-}
 
 /// The product.
 pub fn product(a: i64, b: i64) -> i128
@@ -104,7 +71,7 @@ pub fn common_of(a: i64, p: &[i64], b: i64, n: &[i64]) -> u128
             return 1;
         }
         let number = mix(a, p[i], b, n[i]);
-        common = gcd(common, number.unsigned_abs());
+        common = wide_gcd(common, number.unsigned_abs());
     }
     common
 }
@@ -115,7 +82,7 @@ fn common_of_two(common: u128, number: i128) -> u128
     ensures value { result ≡ gcd common (unsigned_abs number) }
     ensures small { result ≤ 2 ^ 119 }
 {
-    gcd(common, number.unsigned_abs())
+    wide_gcd(common, number.unsigned_abs())
 }
 
 /// The greatest common divisor of a number and of multipliers.
@@ -185,7 +152,7 @@ pub fn small_ratio(num: i128, den: u128) -> Option<Frac>
     requires den_small { den ≤ 2 ^ 119 }
     ensures { MatchOption result (fits_ℚ (ratio num den) ≡ false) (λ q. (q ≡ ratio num den) × (fits_ℚ (ratio num den) ≡ true)) }
 {
-    let common = gcd(num.unsigned_abs(), den);
+    let common = wide_gcd(num.unsigned_abs(), den);
     let Some(low_num) = over_divisor(num, common) else {
         return None;
     };

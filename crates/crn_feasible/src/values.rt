@@ -9,9 +9,10 @@ ghost use Rattle.crn_feasible.specs.Elimination.{coordinates, next, between, fit
 ghost use Rattle.crn_feasible.specs.Steps.{Goes, list_of, kept_of, IsList};
 ghost use Rattle.crn_feasible.specs.Chosen.{Misses, IsWritten, is_on, bounds, greatest_of, least_of};
 
-use crate::numbers::{LIMIT, dot, mix, over_divisor, product, short_gcd, small_ratio};
+use crate::numbers::{LIMIT, dot, mix, over_divisor, product, small_ratio};
 use crate::rows::{Ending, RowList, without};
 use crn_fraction::Frac;
+use crn_fraction::divisors::lcm;
 use std::alloc::Global;
 use std::cmp::Ordering;
 
@@ -210,8 +211,7 @@ fn common_den(values: &[Frac]) -> Option<u64>
     let mut common = 1u64;
     for value in values {
         let den = value.den() as u64;
-        let shared = short_gcd(common, den);
-        let multiple = (common / shared) as u128 * den as u128;
+        let multiple = lcm(common, den);
         if multiple > LIMIT {
             return None;
         }

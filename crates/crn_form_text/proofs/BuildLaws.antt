@@ -5,6 +5,7 @@ use Rattle.crn_grammar.specs.Table.{after}
 use Rattle.crn_grammar.proofs.TableLaws.{after_then}
 use Rattle.crn_token.specs.Plain.{Plain}
 use Rattle.std.specs.Option.{IsSome}
+use Rattle.std.proofs.lemmas.Option.{none-some, same_Some}
 use Rattle.crn_formula.specs.declared.formula.Formula as code
 use Rattle.crn_formula.specs.Views.{plain_of}
 use Rattle.crn_formula.specs.Formulas.{Formula, Lin, Add, Sub, Scale, Min, Max, node_count, depth_of, formula_has_constant}
@@ -15,8 +16,6 @@ use Rattle.crn_form_text.specs.declared.formula.Item.TheVariants as item
 use Rattle.crn_form_text.specs.Grammar.{SpellsFormula, narrow}
 use Rattle.crn_form_text.specs.Reading.{keep, Walk, walks, mark_of, whole_of}
 use Rattle.crn_form_text.specs.Built.{applied, postfix, builds, only, fitted, IsWalkOf}
-use Rattle.crn_form_text.proofs.Puts.{none_some}
-use Rattle.crn_token.proofs.Options.{some_alike}
 use Rattle.crn_form_text.proofs.WalkRuns.{kept, walk_spelled}
 use Rattle.crn_form_text.proofs.WalkWritten.{walk_written}
 
@@ -78,7 +77,7 @@ or_false false = refl
 pub walk_is : (k : ℕ) (ts : List Plain) (v : Walk) → k ≤ 8 → whole_of (walks k) (map mark_of ts) ≡ Some v → (e : Formula) × SpellsFormula k e ts × IsWalkOf k e v
 walk_is k ts v few ends =
     let (e, spells) = walk_written k ts v few ends in
-    let same = some_alike _ v (sym (walk_spelled k e ts few spells) ∙ ends) in
+    let same = same_Some _ v (sym (walk_spelled k e ts few spells) ∙ ends) in
     let deep : max 0 (0 + depth_of e) ≡ depth_of e = omega arith in (
       e,
       spells,
@@ -94,7 +93,7 @@ walk_is k ts v few ends =
 
 -- where none is, no formula is spelled
 pub walk_is_not : (k : ℕ) (ts : List Plain) → k ≤ 8 → None ≡ whole_of (walks k) (map mark_of ts) → (e : Formula) → SpellsFormula k e ts → ⊥
-walk_is_not k ts few none e spells = none_some _ (none ∙ walk_spelled k e ts few spells)
+walk_is_not k ts few none e spells = none-some _ (none ∙ walk_spelled k e ts few spells)
 
 -- the number of columns fits the formula
 pub fitted_is : (k : ℕ) (e : Formula) (affine : Bool) → affine ≡ formula_has_constant k e → narrow (k + 1) e ≡ e → narrow (cond affine (k + 1) k) e ≡ fitted k e
@@ -106,8 +105,8 @@ pub built_is : (found : Option code.Formula) (n : ℕ) (items : List Item) (e : 
 built_is found n items e is same = is ∙ ap (whole_of (builds n)) same ∙ built_whole n e
 
 pub is_built : (found : Option code.Formula) (e : Formula) → option_map plain_of found ≡ Some e → IsSome found
-is_built None e is = absurd (none_some e is)
+is_built None e is = absurd (none-some e is)
 is_built (Some f) e is = refl
 
 pub formula_is : (found : Option code.Formula) (f : code.Formula) (e : Formula) → found ≡ Some f → option_map plain_of found ≡ Some e → plain_of f ≡ e
-formula_is found f e here is = some_alike _ _ (sym (ap (option_map plain_of) here) ∙ is)
+formula_is found f e here is = same_Some _ _ (sym (ap (option_map plain_of) here) ∙ is)

@@ -3,6 +3,7 @@ use Rattle.std.proofs.Common.{◌≡◌, ℕ, suc, ◌<◌, ltb, pos, Bool, true
 use Rattle.std.proofs.lemmas.List.{map-append}
 use Rattle.std.specs.Prelude.{codes}
 use Rattle.std.specs.Option.{option_and_then, option_map}
+use Rattle.std.proofs.lemmas.Option.{none-some, same_Some}
 use Rattle.crn_grammar.specs.Table.{after}
 use Rattle.crn_grammar.proofs.TableLaws.{after_then}
 use Rattle.crn_token.specs.Plain.{Plain, PlainWord}
@@ -16,8 +17,7 @@ use Rattle.crn_form_text.specs.declared.form.Place.TheVariants as place
 use Rattle.crn_form_text.specs.Grammar.{Whole, Over, Term, Variable, Multiple, Constant, Signed, minus_before, sign_before, term_tokens, more_tokens, form_tokens, column_of, coefficient_of, coefficient, IsTermOver, AreTermsOver, signed}
 use Rattle.crn_form_text.specs.Reading.{FormState, at_place, put, closed, term_next, in_term_next, name_next, form_next, no_entries, forms, mark_of, count_next, count_value, factor_of}
 use Rattle.crn_form_text.proofs.Marks.{IsMarked, marked}
-use Rattle.crn_form_text.proofs.Puts.{none_some, puts}
-use Rattle.crn_token.proofs.Options.{some_alike}
+use Rattle.crn_form_text.proofs.Puts.{puts}
 use Rattle.crn_form_text.proofs.NumberLaws.{WrittenCount, count_step, over_whole, value_written, IsFactor, factor_written}
 
 -- ---- the text of a form is read
@@ -45,10 +45,10 @@ sign_mark true = mark.Minus
 sign_mark false = mark.Plus
 
 sign_next : (k : ℕ) (p : Place) (es fs : List (Option ℚ)) (negative : Bool) → closed k p es ≡ Some fs → form_next k p es (sign_mark negative) ≡ Some (at_place (place.Term negative count.Empty) fs)
-sign_next k place.Begin es fs negative e = absurd (none_some fs e)
+sign_next k place.Begin es fs negative e = absurd (none-some fs e)
 sign_next k (place.Term s c) es fs true e = ap (option_map (λ l. at_place (place.Term true count.Empty) l)) e
 sign_next k (place.Term s c) es fs false e = ap (option_map (λ l. at_place (place.Term false count.Empty) l)) e
-sign_next k (place.Named q) es fs negative e = absurd (none_some fs e)
+sign_next k (place.Named q) es fs negative e = absurd (none-some fs e)
 sign_next k place.Ended es fs true e = ap (option_map (λ l. at_place (place.Term true count.Empty) l)) e
 sign_next k place.Ended es fs false e = ap (option_map (λ l. at_place (place.Term false count.Empty) l)) e
 
@@ -66,7 +66,7 @@ more_run k (t ∷ terms) s es fs ends (here, over) e = go (put es (column_of k t
 
     go : (o : Option (List (Option ℚ))) → put es (column_of k t.term) (coefficient t) ≡ o → ((u : FormState) (gs : List (Option ℚ)) → closed k u.place u.entries ≡ Some gs → puts k gs terms ≡ Some fs → RunsTo k u (more_tokens terms) fs)
         → RunsTo k s (more_tokens (t ∷ terms)) fs
-    go None put_e again = absurd (none_some fs (ap (option_and_then (λ l. puts k l terms)) (sym put_e) ∙ e))
+    go None put_e again = absurd (none-some fs (ap (option_and_then (λ l. puts k l terms)) (sym put_e) ∙ e))
     go (Some gs) put_e again =
         let (u, there, ends') = term_run k es gs t.negative t.term here put_e in
         let rest = again u gs ends' (ap (option_and_then (λ l. puts k l terms)) (sym put_e) ∙ e) in
@@ -92,7 +92,7 @@ form_run k [] fs some over e = absurd (omega arith)
 form_run k (t ∷ terms) fs some (here, over) e = go (put no_entries (column_of k t.term) (coefficient t)) refl
   where
     go : (o : Option (List (Option ℚ))) → put no_entries (column_of k t.term) (coefficient t) ≡ o → RunsTo k (forms k).start (form_tokens (t ∷ terms)) fs
-    go None put_e = absurd (none_some fs (ap (option_and_then (λ l. puts k l terms)) (sym put_e) ∙ e))
+    go None put_e = absurd (none-some fs (ap (option_and_then (λ l. puts k l terms)) (sym put_e) ∙ e))
     go (Some gs) put_e =
         let (u, there, ends') = lead_run k no_entries gs t.negative t.term (term_run k no_entries gs t.negative t.term here put_e) in
         runs_on k (forms k).start u (minus_before t.negative ++ term_tokens t.term) (more_tokens terms) fs there (more_run k terms u gs fs ends' over (ap (option_and_then (λ l. puts k l terms)) (sym put_e) ∙ e))
@@ -122,12 +122,12 @@ form_snoc (u ∷ terms) negative t =
     ∙ ap (λ l. l ++ term_tokens t) (sym (append_assoc (minus_before u.negative ++ term_tokens u.term) (more_tokens terms) (sign_before negative)))
 
 pub puts_snoc : (k : ℕ) (es fs gs : List (Option ℚ)) (terms : List Signed) (t : Signed) → puts k es terms ≡ Some fs → put fs (column_of k t.term) (coefficient t) ≡ Some gs → puts k es (terms ++ t ∷ []) ≡ Some gs
-puts_snoc k es fs gs [] t e f = let same : es ≡ fs = some_alike es fs e in rw (same, f) refl
+puts_snoc k es fs gs [] t e f = let same : es ≡ fs = same_Some es fs e in rw (same, f) refl
 puts_snoc k es fs gs (u ∷ terms) t e f = go (put es (column_of k u.term) (coefficient u)) refl (λ hs e'. puts_snoc k hs fs gs terms t e' f)
   where
     go : (o : Option (List (Option ℚ))) → put es (column_of k u.term) (coefficient u) ≡ o → ((hs : List (Option ℚ)) → puts k hs terms ≡ Some fs → puts k hs (terms ++ t ∷ []) ≡ Some gs)
         → puts k es (u ∷ terms ++ t ∷ []) ≡ Some gs
-    go None put_e again = absurd (none_some fs (ap (option_and_then (λ l. puts k l terms)) (sym put_e) ∙ e))
+    go None put_e again = absurd (none-some fs (ap (option_and_then (λ l. puts k l terms)) (sym put_e) ∙ e))
     go (Some hs) put_e again = ap (option_and_then (λ l. puts k l (terms ++ t ∷ []))) put_e ∙ again hs (ap (option_and_then (λ l. puts k l terms)) (sym put_e) ∙ e)
 
 pub over_snoc : (k : ℕ) (terms : List Signed) (t : Signed) → AreTermsOver k terms → IsTermOver k t.term → AreTermsOver k (terms ++ t ∷ [])
@@ -187,13 +187,13 @@ led_more k es negative p read = record {
 
 -- where the form may end, it is read
 pub closed_written : (k : ℕ) (p : Place) (es fs : List (Option ℚ)) (tokens : List Plain) → Written k p es tokens → closed k p es ≡ Some fs → IsRead k fs tokens
-closed_written k place.Begin es fs tokens w e = absurd (none_some fs e)
-closed_written k (place.Named v) es fs tokens w e = absurd (none_some fs e)
-closed_written k place.Ended es fs tokens w e = subst (λ l. IsRead k l tokens) (some_alike es fs e) w
+closed_written k place.Begin es fs tokens w e = absurd (none-some fs e)
+closed_written k (place.Named v) es fs tokens w e = absurd (none-some fs e)
+closed_written k place.Ended es fs tokens w e = subst (λ l. IsRead k l tokens) (same_Some es fs e) w
 closed_written k (place.Term negative c) es fs tokens (q, n, led, written, is) e = go (count_value c) refl
   where
     go : (o : Option ℚ) → count_value c ≡ o → IsRead k fs tokens
-    go None none = absurd (none_some fs (ap (option_and_then (λ v. put es k v)) (sym none) ∙ e))
+    go None none = absurd (none-some fs (ap (option_and_then (λ v. put es k v)) (sym none) ∙ e))
     go (Some v) value =
         let number = value_written negative c v n written value in
         let put_e : put es k v ≡ Some fs = ap (option_and_then (λ v. put es k v)) (sym value) ∙ e in
@@ -272,13 +272,13 @@ form_written k place.Ended es mark.Plus t tokens is w = sign_written k false pla
 form_written k p es m t tokens is w = in_term_written k p es m t tokens is w
 
 pub all_written : (k : ℕ) (ts tokens : List Plain) (s u : FormState) → StateWritten k s tokens → after (forms k) s (map mark_of ts) ≡ Some u → StateWritten k u (tokens ++ ts)
-all_written k [] tokens s u w there = subst (λ v. StateWritten k v (tokens ++ [])) (some_alike s u there) (subst (StateWritten k s) (sym (append-nil tokens)) w)
+all_written k [] tokens s u w there = subst (λ v. StateWritten k v (tokens ++ [])) (same_Some s u there) (subst (StateWritten k s) (sym (append-nil tokens)) w)
 all_written k (t ∷ ts) tokens s u w there =
     go (form_next k s.place s.entries (mark_of t)) refl (λ v w' there'. subst (StateWritten k u) (append_assoc tokens (t ∷ []) ts) (all_written k ts (tokens ++ t ∷ []) v u w' there'))
   where
     go : (o : Option FormState) → form_next k s.place s.entries (mark_of t) ≡ o → ((v : FormState) → StateWritten k v (tokens ++ t ∷ []) → after (forms k) v (map mark_of ts) ≡ Some u → StateWritten k u (tokens ++ t ∷ ts))
         → StateWritten k u (tokens ++ t ∷ ts)
-    go None e again = absurd (none_some u (ap (option_and_then (λ v. after (forms k) v (map mark_of ts))) (sym e) ∙ there))
+    go None e again = absurd (none-some u (ap (option_and_then (λ v. after (forms k) v (map mark_of ts))) (sym e) ∙ there))
     go (Some v) e again =
         again v (subst (λ o. IfSome o (λ v. StateWritten k v (tokens ++ t ∷ []))) e (form_written k s.place s.entries (mark_of t) t tokens (marked t) w))
         (ap (option_and_then (λ v. after (forms k) v (map mark_of ts))) (sym e) ∙ there)

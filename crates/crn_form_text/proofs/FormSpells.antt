@@ -4,13 +4,13 @@ use Rattle.std.specs.Prelude.{unwrap_or, replicate}
 use Rattle.std.specs.Option.{option_and_then, option_map}
 use Rattle.std.proofs.lemmas.List.{ext_get_or, get_or-take, length-take-le, length-map}
 use Rattle.std.proofs.Math.ListN.{get_or-map}
+use Rattle.std.proofs.lemmas.Option.{none-some, same_Some}
 use Rattle.crn_grammar.specs.Table.{after}
 use Rattle.crn_token.specs.Plain.{Plain}
 use Rattle.crn_fraction.specs.Rational.{ℚ, 0ℚ}
 use Rattle.crn_form_text.specs.Grammar.{Signed, column_of, AreTermsOver, entry_in, AreTermsOf, SpellsForm}
 use Rattle.crn_form_text.specs.Reading.{FormState, closed, no_entries, form_with, forms, mark_of, form_of}
-use Rattle.crn_form_text.proofs.Puts.{none_some, puts, AllFree, can_put, WerePut, were_put, entry_or, entry_in-or}
-use Rattle.crn_token.proofs.Options.{some_alike}
+use Rattle.crn_form_text.proofs.Puts.{puts, AllFree, can_put, WerePut, were_put, entry_or, entry_in-or}
 use Rattle.crn_form_text.proofs.FormLaws.{form_run, form_read}
 
 abbrev nones : ℕ → List (Option ℚ)
@@ -64,13 +64,13 @@ pub form_spelled : (k : ℕ) (form : List ℚ) (tokens : List Plain) → k ≤ 8
 form_spelled k form tokens few e = at_end (after (forms k) (forms k).start (map mark_of tokens)) refl
   where
     with_entries : (u : FormState) → after (forms k) (forms k).start (map mark_of tokens) ≡ Some u → (o : Option (List (Option ℚ))) → closed k u.place u.entries ≡ o → option_map (form_with (k + 1)) o ≡ Some form → SpellsForm k form tokens
-    with_entries u there None ends is = absurd (none_some form is)
+    with_entries u there None ends is = absurd (none-some form is)
     with_entries u there (Some es) ends is =
         let read = form_read k tokens u es there ends in
-        (read.terms, subst (λ f. AreTermsOf k f read.terms) (some_alike _ _ is) (read_terms k es read.terms few read.some read.over read.puts_es), read.tokens)
+        (read.terms, subst (λ f. AreTermsOf k f read.terms) (same_Some _ _ is) (read_terms k es read.terms few read.some read.over read.puts_es), read.tokens)
 
     at_end : (o : Option FormState) → after (forms k) (forms k).start (map mark_of tokens) ≡ o → SpellsForm k form tokens
-    at_end None there = absurd (none_some form (ap (option_and_then (forms k).whole) (sym there) ∙ e))
+    at_end None there = absurd (none-some form (ap (option_and_then (forms k).whole) (sym there) ∙ e))
     at_end (Some u) there = with_entries u there (closed k u.place u.entries) refl (ap (option_and_then (forms k).whole) (sym there) ∙ e)
 
 -- a form that is spelled is read

@@ -1,12 +1,12 @@
 -- The tokens of what is printed keep apart, so that its bytes read back as these tokens.
 use Rattle.std.proofs.Common.{◌≡◌, ℕ, suc, ◌+◌, ◌≤◌, eqb, Bool, true, false, ℤ, pos, IsTrue, List, [], ◌∷◌, ◌++◌, length, take, refl, sym, ◌∙◌, subst, ⊎_elim, arith, append_assoc}
 use Rattle.std.specs.Prelude.{codes}
-use Rattle.std.proofs.lemmas.Int.{ints}
 use Rattle.std.proofs.lemmas.Bool.{cases_Bool}
 use Rattle.crn_token.specs.declared.Sign.{Sign}
 use Rattle.crn_token.specs.declared.Sign.TheVariants.{LeftParen, RightParen, Comma, Minus}
 use Rattle.crn_token.specs.Plain.{PlainWord, PlainNumber, PlainSign}
 use Rattle.crn_token.specs.Printed.{Item, Shown, Blank, IsToken, ends_before, IsPrinted}
+use Rattle.crn_token.proofs.PrintedLaws.{IsToken-number}
 use Rattle.crn_fraction.specs.Rational.{ℚ, is_zero_ℚ}
 use Rattle.crn_fraction.specs.Frac.{IsFrac}
 use Rattle.crn_linear.specs.Forms.{entry_of}
@@ -32,15 +32,12 @@ AreSmallTerms (t ∷ terms) = IsSmallTerm t.term × AreSmallTerms terms
 abbrev pub Ends : List Item → Type 0
 Ends rest = (n : ℤ) → IsTrue (ends_before (PlainNumber n) rest)
 
-number_token : (n : ℕ) → n ≤ 9223372036854775807 → IsToken (PlainNumber (pos n))
-number_token n small = (omega (arith, ints), omega (arith, ints))
-
 numeral_printed : (n : Numeral) (rest : List Item) → IsSmallNumeral n → Ends rest → IsPrinted rest → IsPrinted (closed_up (numeral_tokens n) ++ rest)
-numeral_printed (Whole n) rest small ends printed = (number_token n small, ends (pos n), printed)
-numeral_printed (Over n e) rest small ends printed = (number_token n small.0, refl, (tt, refl, (number_token (suc e) small.1, ends (pos (suc e)), printed)))
+numeral_printed (Whole n) rest small ends printed = (IsToken-number n small, ends (pos n), printed)
+numeral_printed (Over n e) rest small ends printed = (IsToken-number n small.0, refl, (tt, refl, (IsToken-number (suc e) small.1, ends (pos (suc e)), printed)))
 
 name_printed : (column : ℕ) (rest : List Item) → column ≤ 8 → Ends rest → IsPrinted rest → IsPrinted (closed_up (name_tokens column) ++ rest)
-name_printed column rest small ends printed = (refl, refl, (number_token (suc column) (omega arith), ends (pos (suc column)), printed))
+name_printed column rest small ends printed = (refl, refl, (IsToken-number (suc column) (omega arith), ends (pos (suc column)), printed))
 
 term_printed : (t : Term) (rest : List Item) → IsSmallTerm t → Ends rest → IsPrinted rest → IsPrinted (closed_up (term_tokens t) ++ rest)
 term_printed (Variable column) rest small ends printed = name_printed column rest small ends printed

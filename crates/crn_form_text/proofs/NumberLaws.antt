@@ -1,5 +1,6 @@
 -- What the tokens of a number were, by what is read of it.
 use Rattle.std.proofs.Common.{◌≡◌, ◌⊎◌, ℕ, suc, pos, Bool, inl, inr, List, [], ◌∷◌, ◌++◌, Some, IfSome, refl, sym, ap, ◌∙◌}
+use Rattle.std.proofs.lemmas.Option.{none-some, same_Some}
 use Rattle.crn_token.specs.declared.Sign.TheVariants.{Slash}
 use Rattle.crn_token.specs.Plain.{Plain, PlainNumber, PlainSign}
 use Rattle.crn_fraction.specs.Rational.{ℚ, whole, ◌/ℚ◌}
@@ -11,8 +12,6 @@ use Rattle.crn_form_text.specs.declared.number.Count.TheVariants as count
 use Rattle.crn_form_text.specs.Grammar.{Numeral, Whole, Over, numeral_tokens, signed, fraction}
 use Rattle.crn_form_text.specs.Reading.{count_next, count_value, factor_of}
 use Rattle.crn_form_text.proofs.Marks.{IsMarked}
-use Rattle.crn_form_text.proofs.Puts.{none_some}
-use Rattle.crn_token.proofs.Options.{some_alike}
 
 abbrev pub WrittenCount : (negative : Bool) → Count → List Plain → Type 0
 WrittenCount negative count.Empty p = p ≡ []
@@ -36,17 +35,17 @@ abbrev pub IsNumber : (negative : Bool) → ℚ → List Plain → Type 0
 IsNumber negative q p = (n : Numeral) × (p ≡ numeral_tokens n) × (q ≡ fraction negative n)
 
 pub value_written : (negative : Bool) (c : Count) (q : ℚ) (p : List Plain) → WrittenCount negative c p → count_value c ≡ Some q → IsNumber negative q p
-value_written negative count.Empty q p w e = absurd (none_some q e)
-value_written negative (count.Whole r) q p (n, is, f) e = (Whole n, is, sym (some_alike r q e) ∙ f)
-value_written negative (count.Over r) q p w e = absurd (none_some q e)
-value_written negative (count.Quotient r) q p (n, x, is, f) e = (Over n x, is, sym (some_alike r q e) ∙ f)
+value_written negative count.Empty q p w e = absurd (none-some q e)
+value_written negative (count.Whole r) q p (n, is, f) e = (Whole n, is, sym (same_Some r q e) ∙ f)
+value_written negative (count.Over r) q p w e = absurd (none-some q e)
+value_written negative (count.Quotient r) q p (n, x, is, f) e = (Over n x, is, sym (same_Some r q e) ∙ f)
 
 -- what the coefficient before a variable was written as
 abbrev pub IsFactor : (negative : Bool) → ℚ → List Plain → Type 0
 IsFactor negative q p = ((p ≡ []) × (q ≡ whole (signed negative 1))) ⊎ IsNumber negative q p
 
 pub factor_written : (negative : Bool) (c : Count) (q : ℚ) (p : List Plain) → WrittenCount negative c p → factor_of negative c ≡ Some q → IsFactor negative q p
-factor_written negative count.Empty q p w e = inl (w, sym (some_alike _ q e))
+factor_written negative count.Empty q p w e = inl (w, sym (same_Some _ q e))
 factor_written negative (count.Whole r) q p w e = inr (value_written negative (count.Whole r) q p w e)
-factor_written negative (count.Over r) q p w e = absurd (none_some q e)
+factor_written negative (count.Over r) q p w e = absurd (none-some q e)
 factor_written negative (count.Quotient r) q p w e = inr (value_written negative (count.Quotient r) q p w e)

@@ -2,13 +2,12 @@
 use Rattle.std.proofs.Common.{◌≡◌, ◌⊎◌, ℕ, zero, suc, ◌≤◌, pos, negsuc, false, inl, inr, List, [], ◌∷◌, length, take, Option, Some, None, refl, sym, ap, ◌∙◌, subst, ⊎_elim, arith}
 use Rattle.std.specs.Option.{option_map_or}
 use Rattle.std.proofs.lemmas.List.{length-take-le}
+use Rattle.std.proofs.lemmas.Option.{none-some, same_Some}
 use Rattle.crn_token.specs.declared.Sign.TheVariants.{Slash}
 use Rattle.crn_token.specs.Plain.{Plain, PlainWord, PlainNumber, PlainSign}
 use Rattle.crn_fraction.specs.Rational.{ℚ}
 use Rattle.crn_form_text.specs.Grammar.{Numeral, Whole, Over, numeral_tokens, fraction, SpellsNumber, IsLongestNumber, BeginsNoNumber}
 use Rattle.crn_form_text.specs.Reading.{denominator_at, fraction_after, fraction_at}
-use Rattle.crn_form_text.proofs.Puts.{none_some}
-use Rattle.crn_token.proofs.Options.{some_alike}
 
 -- a text of a number has one token or three
 number_long : (ts : List Plain) (m : ℕ) (r : ℚ) → m ≤ length ts → SpellsNumber r (take m ts) → (m ≡ 1) ⊎ (m ≡ 3)
@@ -16,8 +15,8 @@ number_long ts m r within (Whole n, is, value) = inl (sym (length-take-le m ts w
 number_long ts m r within (Over n e, is, value) = inr (sym (length-take-le m ts within) ∙ ap length is)
 
 denominator_is : (us : List Plain) (e : ℕ) → denominator_at us ≡ Some e → (vs : List Plain) × (us ≡ PlainSign Slash ∷ PlainNumber (pos (suc e)) ∷ vs)
-denominator_is (PlainSign Slash ∷ PlainNumber (pos (suc x)) ∷ vs) e h = (vs, ap (λ d. PlainSign Slash ∷ PlainNumber (pos (suc d)) ∷ vs) (some_alike x e h))
-denominator_is us e h = absurd (none_some e h)
+denominator_is (PlainSign Slash ∷ PlainNumber (pos (suc x)) ∷ vs) e h = (vs, ap (λ d. PlainSign Slash ∷ PlainNumber (pos (suc d)) ∷ vs) (same_Some x e h))
+denominator_is us e h = absurd (none-some e h)
 
 denominator_of : (us : List Plain) (e : ℕ) → take 2 us ≡ PlainSign Slash ∷ PlainNumber (pos (suc e)) ∷ [] → denominator_at us ≡ Some e
 denominator_of [] e h = absurd (cc h)
@@ -51,7 +50,7 @@ whole_longest n us none = record {
   where
     no_over : (r : ℚ) → SpellsNumber r (PlainNumber (pos n) ∷ take 2 us) → 3 ≤ length (PlainNumber (pos n) ∷ us) → ⊥
     no_over r (Whole x, is, value) long = absurd (omega (arith, ap length is, length-take-le 2 us (omega arith)))
-    no_over r (Over x e, is, value) long = none_some e (sym none ∙ denominator_of us e (cc is))
+    no_over r (Over x e, is, value) long = none-some e (sym none ∙ denominator_of us e (cc is))
 
 over_longest : (n e : ℕ) (vs : List Plain) → IsLongestNumber (PlainNumber (pos n) ∷ PlainSign Slash ∷ PlainNumber (pos (suc e)) ∷ vs) (fraction false (Over n e)) 3
 over_longest n e vs = record {

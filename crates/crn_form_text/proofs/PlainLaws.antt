@@ -3,6 +3,7 @@ use Rattle.std.proofs.Common.{◌≡◌, ℕ, suc, ◌<◌, ltb, pos, Bool, true
 use Rattle.std.proofs.lemmas.List.{map-append}
 use Rattle.std.specs.Prelude.{codes}
 use Rattle.std.specs.Option.{option_and_then, option_map}
+use Rattle.std.proofs.lemmas.Option.{none-some, same_Some}
 use Rattle.crn_grammar.specs.Table.{after}
 use Rattle.crn_grammar.proofs.TableLaws.{after_then}
 use Rattle.crn_token.specs.Plain.{Plain, PlainWord}
@@ -16,8 +17,7 @@ use Rattle.crn_form_text.specs.declared.form.Place.TheVariants as place
 use Rattle.crn_form_text.specs.Grammar.{Whole, Over, Term, Variable, Multiple, Constant, Signed, minus_before, sign_before, term_tokens, more_tokens, form_tokens, column_of, coefficient_of, coefficient, IsTermOver, AreTermsOver, IsPlainTerm, ArePlain}
 use Rattle.crn_form_text.specs.Reading.{FormState, at_place, put, term_next, in_term_next, name_next, plain_next, no_entries, plain_forms, mark_of, count_next, factor_of}
 use Rattle.crn_form_text.proofs.Marks.{IsMarked, marked}
-use Rattle.crn_form_text.proofs.Puts.{none_some, puts}
-use Rattle.crn_token.proofs.Options.{some_alike}
+use Rattle.crn_form_text.proofs.Puts.{puts}
 use Rattle.crn_form_text.proofs.NumberLaws.{WrittenCount, count_step, over_whole, IsFactor, factor_written}
 use Rattle.crn_form_text.proofs.FormLaws.{signed_term, sign_tokens, form_snoc, puts_snoc, over_snoc, long_snoc}
 
@@ -50,7 +50,7 @@ leads_on : (k : ℕ) (s u v : FormState) (xs ys : List Plain) → Leads k s xs u
 leads_on k s u v xs ys first then = ap (after (plain_forms k) s) (map-append mark_of xs ys) ∙ after_then (plain_forms k) s u (map mark_of xs) (map mark_of ys) first ∙ then
 
 more_run : (k : ℕ) (terms : List Signed) (es fs : List (Option ℚ)) → AreTermsOver k terms → ArePlain terms → puts k es terms ≡ Some fs → Leads k (ended_at es) (more_tokens terms) (ended_at fs)
-more_run k [] es fs over plain e = ap (λ l. Some (ended_at l)) (some_alike es fs e)
+more_run k [] es fs over plain e = ap (λ l. Some (ended_at l)) (same_Some es fs e)
 more_run k (t ∷ terms) es fs (here, over) (positive, plain_t, plain) e = go (put es (column_of k t.term) (coefficient t)) refl (λ gs e'. more_run k terms gs fs over plain e')
   where
     signed_run : (negative : Bool) → negative ≡ false → Leads k (ended_at es) (sign_before negative) (term_at es)
@@ -59,7 +59,7 @@ more_run k (t ∷ terms) es fs (here, over) (positive, plain_t, plain) e = go (p
 
     go : (o : Option (List (Option ℚ))) → put es (column_of k t.term) (coefficient t) ≡ o → ((gs : List (Option ℚ)) → puts k gs terms ≡ Some fs → Leads k (ended_at gs) (more_tokens terms) (ended_at fs))
         → Leads k (ended_at es) (more_tokens (t ∷ terms)) (ended_at fs)
-    go None put_e again = absurd (none_some fs (ap (option_and_then (λ l. puts k l terms)) (sym put_e) ∙ e))
+    go None put_e again = absurd (none-some fs (ap (option_and_then (λ l. puts k l terms)) (sym put_e) ∙ e))
     go (Some gs) put_e again =
         let one = term_run k es gs t.term here plain_t (ap (λ b. put es (column_of k t.term) (coefficient_of b t.term)) (sym positive) ∙ put_e) in
         leads_on k (ended_at es) (ended_at gs) (ended_at fs) (sign_before t.negative ++ term_tokens t.term) (more_tokens terms)
@@ -77,7 +77,7 @@ plain_run k (t ∷ terms) fs some (here, over) (positive, plain_t, plain) e = go
     lead gs false e run = run
 
     go : (o : Option (List (Option ℚ))) → put no_entries (column_of k t.term) (coefficient t) ≡ o → Leads k (plain_forms k).start (form_tokens (t ∷ terms)) (ended_at fs)
-    go None put_e = absurd (none_some fs (ap (option_and_then (λ l. puts k l terms)) (sym put_e) ∙ e))
+    go None put_e = absurd (none-some fs (ap (option_and_then (λ l. puts k l terms)) (sym put_e) ∙ e))
     go (Some gs) put_e =
         let one = term_run k no_entries gs t.term here plain_t (ap (λ b. put no_entries (column_of k t.term) (coefficient_of b t.term)) (sym positive) ∙ put_e) in
         leads_on k (plain_forms k).start (ended_at gs) (ended_at fs) (minus_before t.negative ++ term_tokens t.term) (more_tokens terms)
@@ -194,13 +194,13 @@ plain_written k (place.Named v) es mark.Plus t tokens is w = tt
 plain_written k p es m t tokens is w = in_term_written k p es m t tokens is w
 
 all_written : (k : ℕ) (ts tokens : List Plain) (s u : FormState) → PlainState k s tokens → after (plain_forms k) s (map mark_of ts) ≡ Some u → PlainState k u (tokens ++ ts)
-all_written k [] tokens s u w there = subst (λ v. PlainState k v (tokens ++ [])) (some_alike s u there) (subst (PlainState k s) (sym (append-nil tokens)) w)
+all_written k [] tokens s u w there = subst (λ v. PlainState k v (tokens ++ [])) (same_Some s u there) (subst (PlainState k s) (sym (append-nil tokens)) w)
 all_written k (t ∷ ts) tokens s u w there =
     go (plain_next k s.place s.entries (mark_of t)) refl (λ v w' there'. subst (PlainState k u) (append_assoc tokens (t ∷ []) ts) (all_written k ts (tokens ++ t ∷ []) v u w' there'))
   where
     go : (o : Option FormState) → plain_next k s.place s.entries (mark_of t) ≡ o → ((v : FormState) → PlainState k v (tokens ++ t ∷ []) → after (plain_forms k) v (map mark_of ts) ≡ Some u → PlainState k u (tokens ++ t ∷ ts))
         → PlainState k u (tokens ++ t ∷ ts)
-    go None e again = absurd (none_some u (ap (option_and_then (λ v. after (plain_forms k) v (map mark_of ts))) (sym e) ∙ there))
+    go None e again = absurd (none-some u (ap (option_and_then (λ v. after (plain_forms k) v (map mark_of ts))) (sym e) ∙ there))
     go (Some v) e again =
         again v (subst (λ o. IfSome o (λ v. PlainState k v (tokens ++ t ∷ []))) e (plain_written k s.place s.entries (mark_of t) t tokens (marked t) w))
         (ap (option_and_then (λ v. after (plain_forms k) v (map mark_of ts))) (sym e) ∙ there)

@@ -3,6 +3,7 @@ use Rattle.std.proofs.Common.{◌≡◌, ◌⊎◌, ℕ, zero, suc, ◌+◌, ◌
 use Rattle.std.specs.Prelude.{replicate, unwrap_or, slice_range}
 use Rattle.std.specs.Option.{option_and_then, option_map_or}
 use Rattle.std.proofs.lemmas.List.{length-take-le, length-map, take-map, take-replicate}
+use Rattle.std.proofs.lemmas.Option.{none-some, same_Some}
 use Rattle.crn_grammar.specs.Table.{Table, after}
 use Rattle.crn_token.specs.Plain.{Plain, PlainNumber}
 use Rattle.crn_fraction.specs.Rational.{ℚ, 0ℚ}
@@ -13,8 +14,6 @@ use Rattle.crn_form_text.specs.declared.form.Place.TheVariants as place
 use Rattle.crn_form_text.specs.Grammar.{SpellsPlain, IsLongestPlain, BeginsNoPlain}
 use Rattle.crn_form_text.specs.Reading.{FormState, at_place, no_entries, form_with, plain_whole, plain_forms, whole_of, or_before, longest_from, zero_at, plain_form_at, mark_of}
 use Rattle.crn_form_text.proofs.Marks.{IsMarked, marked}
-use Rattle.crn_form_text.proofs.Puts.{none_some}
-use Rattle.crn_token.proofs.Options.{some_alike}
 use Rattle.crn_form_text.proofs.FormSpells.{read_terms, terms_put}
 use Rattle.crn_form_text.proofs.PlainLaws.{plain_run, plain_read}
 
@@ -113,16 +112,16 @@ plain_spelled : (k : ℕ) (form : List ℚ) (ts : List Plain) → k ≤ 8 → wh
 plain_spelled k form ts few e = at_end (after (plain_forms k) (plain_forms k).start (map mark_of ts)) refl
   where
     with_place : (p : Place) (es : List (Option ℚ)) → after (plain_forms k) (plain_forms k).start (map mark_of ts) ≡ Some (at_place p es) → plain_whole k p es ≡ Some form → SpellsPlain k form ts
-    with_place place.Begin es there whole = absurd (none_some form whole)
-    with_place (place.Term negative c) es there whole = absurd (none_some form whole)
-    with_place (place.Named v) es there whole = absurd (none_some form whole)
+    with_place place.Begin es there whole = absurd (none-some form whole)
+    with_place (place.Term negative c) es there whole = absurd (none-some form whole)
+    with_place (place.Named v) es there whole = absurd (none-some form whole)
     with_place place.Ended es there whole =
         let read = plain_read k ts es there in
         let terms = read_terms k es read.terms few read.some read.over read.puts_es in
-        inr (form_with (k + 1) es, read.terms, terms, read.plain, read.tokens, sym (some_alike _ _ whole) ∙ narrow_with k es)
+        inr (form_with (k + 1) es, read.terms, terms, read.plain, read.tokens, sym (same_Some _ _ whole) ∙ narrow_with k es)
 
     at_end : (o : Option FormState) → after (plain_forms k) (plain_forms k).start (map mark_of ts) ≡ o → SpellsPlain k form ts
-    at_end None there = absurd (none_some form (ap (option_and_then (plain_forms k).whole) (sym there) ∙ e))
+    at_end None there = absurd (none-some form (ap (option_and_then (plain_forms k).whole) (sym there) ∙ e))
     at_end (Some u) there = with_place u.place u.entries there (ap (option_and_then (plain_forms k).whole) (sym there) ∙ e)
 
 pub spelled_plain : (k : ℕ) (form : List ℚ) (ts : List Plain) → k ≤ 8 → SpellsPlain k form ts → (ts ≡ PlainNumber (pos 0) ∷ []) ⊎ (whole_of (plain_forms k) (map mark_of ts) ≡ Some form)
@@ -158,7 +157,7 @@ none_longer : (k : ℕ) (ts : List Plain) (n m : ℕ) (f : List ℚ) → k ≤ 8
 none_longer k ts n m f few none more some within spells =
     ⊎_elim
     (λ zeros. not_zero ts m some within zeros)
-    (λ whole. none_some f (sym (none m more (omega (arith, length-map ts mark_of))) ∙ taken k ts m ∙ whole))
+    (λ whole. none-some f (sym (none m more (omega (arith, length-map ts mark_of))) ∙ taken k ts m ∙ whole))
     (spelled_plain k f (take m ts) few spells)
 
 long_found : (k : ℕ) (ts : List Plain) (r : Option (List ℚ × ℕ)) → k ≤ 8 → Longest (plain_forms k) (plain_forms k).start (map mark_of ts) 0 r → IsFound k ts r
@@ -189,12 +188,12 @@ no_longer_found k ts r few same = subst (IsFound k ts) (sym same.found) (go ts s
   where
     nothing : (ts : List Plain) → zero_at k (map mark_of ts) ≡ None → ((j : ℕ) → 0 < j → j ≤ length (map mark_of ts) → runs_whole k ts j ≡ None) → IsFound k ts None
     nothing ts stuck none zero f within spells =
-        ⊎_elim (λ zeros. absurd (cc zeros)) (λ whole. none_some f whole) (spelled_plain k f [] few spells)
+        ⊎_elim (λ zeros. absurd (cc zeros)) (λ whole. none-some f whole) (spelled_plain k f [] few spells)
     nothing ts stuck none (suc m) f within spells =
         ⊎_elim
         (λ zeros. let (us, is) = begins_zero ts (suc m) zeros in
-        none_some _ (sym stuck ∙ ap (λ l. zero_at k (map mark_of l)) is))
-        (λ whole. none_some f (sym (none (suc m) (omega arith) (omega (arith, length-map ts mark_of))) ∙ taken k ts (suc m) ∙ whole))
+        none-some _ (sym stuck ∙ ap (λ l. zero_at k (map mark_of l)) is))
+        (λ whole. none-some f (sym (none (suc m) (omega arith) (omega (arith, length-map ts mark_of))) ∙ taken k ts (suc m) ∙ whole))
         (spelled_plain k f (take (suc m) ts) few spells)
 
     zeros : (t : Plain) (us : List Plain) → t ≡ PlainNumber (pos zero) → ((j : ℕ) → 0 < j → j ≤ length (map mark_of (t ∷ us)) → runs_whole k (t ∷ us) j ≡ None) → IsFound k (t ∷ us) (Some (form_with k no_entries, 1))

@@ -1,13 +1,12 @@
 -- What is printed spells what was printed.
 use Rattle.std.proofs.Common.{◌≡◌, ◌≢◌, ℕ, zero, suc, ◌+◌, ◌-◌, ◌<◌, ◌≤◌, eqb, Bool, true, false, cond, ℤ, pos, negsuc, List, [], ◌∷◌, ◌++◌, length, take, get_or, refl, sym, ap, ap₂, ◌∙◌, subst, ⊎_elim, arith, eqb-true, eq-eqb, length-append}
 use Rattle.std.specs.Prelude.{codes, unsigned_abs}
-use Rattle.std.proofs.lemmas.Bool.{cases_Bool, cases_lt}
+use Rattle.std.proofs.lemmas.Bool.{cases_Bool, cases_lt, and_parts}
 use Rattle.std.proofs.lemmas.List.{length-take-le, get_or_push}
 use Rattle.std.proofs.Math.ListN.{get_or-append}
 use Rattle.crn_token.specs.declared.Sign.TheVariants.{LeftParen, RightParen, Comma}
 use Rattle.crn_token.specs.Plain.{Plain, PlainWord, PlainSign}
 use Rattle.crn_token.specs.Printed.{Item, Shown, Blank, shown}
-use Rattle.crn_token.proofs.Printed.{and_first, and_second}
 use Rattle.crn_token.proofs.Joins.{shown-append}
 use Rattle.crn_fraction.specs.Rational.{ℚ, 0ℚ, whole, ◌/ℚ◌, is_zero_ℚ}
 use Rattle.crn_fraction.proofs.Products.{is_zero_ℚ_cases, /ℚ-one}
@@ -57,8 +56,8 @@ numeral_back q =
 -- ---- terms
 unit_back : (q : ℚ) → has_size_1 q ≡ true → whole (signed (is_below q) 1) ≡ q
 unit_back q e =
-    let size : unsigned_abs q.num ≡ 1 = eqb-true _ _ (and_first _ _ e) in
-    let one : eqb q.den 1 ≡ true = and_second _ _ e in
+    let size : unsigned_abs q.num ≡ 1 = eqb-true _ _ (and_parts _ _ e).0 in
+    let one : eqb q.den 1 ≡ true = (and_parts _ _ e).1 in
     ap (λ n. whole (signed (is_below q) n)) (sym size) ∙ ap whole (signed_back q.num) ∙ sym (/ℚ-one (whole q.num))
     ∙ ap (λ d. whole q.num /ℚ whole (pos d)) (sym (eqb-true _ _ one)) ∙ parts_quotient q
 

@@ -4,13 +4,10 @@ use Rattle.std.specs.Prelude.{unwrap_or}
 use Rattle.std.specs.Option.{option_and_then}
 use Rattle.std.proofs.lemmas.List.{length-set}
 use Rattle.std.proofs.lemmas.Bool.{cases_Bool, eqb-false}
+use Rattle.std.proofs.lemmas.Option.{none-some, same_Some}
 use Rattle.crn_fraction.specs.Rational.{ℚ, 0ℚ}
 use Rattle.crn_form_text.specs.Grammar.{Term, Variable, Multiple, Constant, Signed, column_of, coefficient, AreTermsOver, IsTermOver, IsFree, StandOnce, entry_in}
 use Rattle.crn_form_text.specs.Reading.{put}
-use Rattle.crn_token.proofs.Options.{some_alike}
-
-pub none_some : {A : Type 0} (a : A) → None ≡ Some a → ⊥
-none_some a e = cc
 
 -- the terms are put one after another
 abbrev pub puts : ℕ → List (Option ℚ) → List Signed → Option (List (Option ℚ))
@@ -25,8 +22,8 @@ pub put_is : (es fs : List (Option ℚ)) (column : ℕ) (q : ℚ) → put es col
 put_is es fs column q e = go (get_or es column None) refl
   where
     go : (o : Option ℚ) → get_or es column None ≡ o → (get_or es column None ≡ None) × (fs ≡ set es column (Some q))
-    go None is = (is, sym (some_alike _ _ (sym (put_free es column q is) ∙ e)))
-    go (Some p) is = let stuck : put es column q ≡ None = rw is refl in absurd (none_some fs (sym stuck ∙ e))
+    go None is = (is, sym (same_Some _ _ (sym (put_free es column q is) ∙ e)))
+    go (Some p) is = let stuck : put es column q ≡ None = rw is refl in absurd (none-some fs (sym stuck ∙ e))
 
 -- each term's column is free
 abbrev pub AllFree : ℕ → List (Option ℚ) → List Signed → Type 0
@@ -80,15 +77,15 @@ apart_from : (k : ℕ) (es : List (Option ℚ)) (column : ℕ) (q : ℚ) (terms 
 apart_from k es column q [] within free = (tt, tt)
 apart_from k es column q (t ∷ terms) within (here, free) =
     let rest = apart_from k es column q terms within free in
-    let other : column_of k t.term ≢ column = λ same. none_some q (sym here ∙ ap (λ c. get_or (set es column (Some q)) c None) same ∙ get_or-set_same es column (Some q) None within) in
+    let other : column_of k t.term ≢ column = λ same. none-some q (sym here ∙ ap (λ c. get_or (set es column (Some q)) c None) same ∙ get_or-set_same es column (Some q) None within) in
     ((other, rest.0), (sym (get_or-set_other es column (column_of k t.term) (Some q) None other) ∙ here, rest.1))
 
 pub were_put : (k : ℕ) (es fs : List (Option ℚ)) (terms : List Signed) → k ≤ 8 → length es ≡ 9 → AreTermsOver k terms → puts k es terms ≡ Some fs → WerePut k es fs terms
 were_put k es fs [] few nine over e = record {
   free = tt;
   once = tt;
-  long = ap length (sym (some_alike _ _ e));
-  entries = λ column. ap (λ l. unwrap_or (get_or l column None) 0ℚ) (sym (some_alike _ _ e));
+  long = ap length (sym (same_Some _ _ e));
+  entries = λ column. ap (λ l. unwrap_or (get_or l column None) 0ℚ) (sym (same_Some _ _ e));
 }
 were_put k es fs (t ∷ terms) few nine (here, over) e = go (put es (column_of k t.term) (coefficient t)) refl (λ es' nine' e'. were_put k es' fs terms few nine' over e')
   where
@@ -120,7 +117,7 @@ were_put k es fs (t ∷ terms) few nine (here, over) e = go (put es (column_of k
         }
 
     go : (o : Option (List (Option ℚ))) → put es c (coefficient t) ≡ o → ((es' : List (Option ℚ)) → length es' ≡ 9 → puts k es' terms ≡ Some fs → WerePut k es' fs terms) → WerePut k es fs (t ∷ terms)
-    go None put_e again = absurd (none_some fs (ap (option_and_then (λ l. puts k l terms)) (sym put_e) ∙ e))
+    go None put_e again = absurd (none-some fs (ap (option_and_then (λ l. puts k l terms)) (sym put_e) ∙ e))
     go (Some es') put_e again =
         let is = put_is es es' c (coefficient t) put_e in
         done es' put_e (again es' (ap length is.1 ∙ length-set es c (Some (coefficient t)) ∙ nine) (ap (option_and_then (λ l. puts k l terms)) (sym put_e) ∙ e))

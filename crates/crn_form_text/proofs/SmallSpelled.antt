@@ -1,18 +1,18 @@
 -- The numbers that small tokens spell are fractions that fit.
-use Rattle.std.proofs.Common.{◌≡◌, ℕ, zero, suc, ◌+◌, ◌-◌, ◌<◌, ◌≤◌, ◌==◌, ◌^◌, Bool, true, false, cond, ℤ, pos, ◌⊎◌, ⊎_elim, List, [], ◌∷◌, ◌++◌, length, take, replicate, refl, sym, ap, ◌∙◌, subst, arith, lit<}
+use Rattle.std.proofs.Common.{◌≡◌, ℕ, zero, suc, ◌<◌, ◌≤◌, ◌==◌, ◌^◌, Bool, true, false, cond, pos, ⊎_elim, List, [], ◌∷◌, ◌++◌, length, take, replicate, refl, sym, ap, ◌∙◌, subst, arith, lit<}
 use Rattle.std.specs.Prelude.{unsigned_abs, codes}
 use Rattle.crn_token.specs.declared.Sign.TheVariants.{RightParen, Comma}
 use Rattle.crn_token.specs.Plain.{Plain, PlainSign}
 use Rattle.crn_token.specs.Small.{AreSmall}
 use Rattle.crn_token.proofs.SmallNumbers.{small_front, small_back}
-use Rattle.crn_fraction.specs.Rational.{ℚ, 0ℚ, whole}
+use Rattle.crn_fraction.specs.Rational.{ℚ, 0ℚ}
 use Rattle.crn_fraction.specs.Frac.{IsFrac}
 use Rattle.crn_linear.specs.Forms.{entry_of}
 use Rattle.crn_formula.specs.Formulas.{Formula, Lin, Add, Sub, Scale, Min, Max, formula_has_constant}
 use Rattle.crn_form_text.specs.Grammar.{Numeral, Whole, Over, numeral_tokens, signed, fraction, minus_before, SpellsSigned, Term, Variable, Multiple, Constant, Signed, name_tokens, term_tokens, sign_before, more_tokens, form_tokens, column_of, coefficient_of, entry_in, AreTermsOf, SpellsForm, SpellsPlain, SpellsFormula, call, pair, narrow}
 use Rattle.crn_form_text.specs.Built.{fitted}
 use Rattle.crn_form_text.specs.Printing.{AreFracs, AreFracsOf, FitsText}
-use Rattle.crn_form_text.proofs.Fractions.{IsFrac-over, over_one}
+use Rattle.crn_fraction.proofs.Fitting.{IsFrac-over, IsFrac-whole}
 
 -- ---- numbers
 
@@ -20,9 +20,6 @@ signed_size : (negative : Bool) (n : ℕ) → unsigned_abs (signed negative n) �
 signed_size false n = refl
 signed_size true zero = refl
 signed_size true (suc n) = refl
-
-pub IsFrac-whole : (n : ℤ) → unsigned_abs n < 2 ^ 63 → IsFrac (whole n)
-IsFrac-whole n small = subst IsFrac (over_one n) (IsFrac-over n 1 small (lit< tt) (lit< tt))
 
 pub IsFrac-zero : IsFrac 0ℚ
 IsFrac-zero = IsFrac-whole (pos 0) (lit< tt)

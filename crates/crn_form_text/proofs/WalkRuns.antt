@@ -3,6 +3,7 @@ use Rattle.std.proofs.Common.{◌≡◌, ℕ, suc, ◌+◌, ◌≤◌, max, Bool
 use Rattle.std.proofs.lemmas.List.{map-append}
 use Rattle.std.specs.Prelude.{codes}
 use Rattle.std.specs.Option.{option_and_then, option_map}
+use Rattle.std.proofs.lemmas.Option.{none-some, same_Some}
 use Rattle.crn_grammar.specs.Table.{after}
 use Rattle.crn_grammar.proofs.TableLaws.{after_then}
 use Rattle.crn_token.specs.declared.Sign.TheVariants.{LeftParen, RightParen, Comma}
@@ -24,8 +25,6 @@ use Rattle.crn_form_text.specs.Grammar.{Numeral, Whole, Over, numeral_tokens, mi
 use Rattle.crn_form_text.specs.Reading.{FormState, closed, form_next, no_entries, form_with, forms, mark_of, factor_value, keep, Mode, Want, Opens, Scales, InFactor, InForm, Have, Walk, at_mode, with_leaf, with_mode, opened, having, comma, close, walk_next, nothing_open, walks, whole_of}
 use Rattle.crn_form_text.specs.Built.{postfix}
 use Rattle.crn_form_text.proofs.Marks.{word_of}
-use Rattle.crn_form_text.proofs.Puts.{none_some}
-use Rattle.crn_token.proofs.Options.{some_alike}
 use Rattle.crn_form_text.proofs.NumberLaws.{over_whole}
 use Rattle.crn_form_text.proofs.FormLaws.{form_run}
 use Rattle.crn_form_text.proofs.FormSpells.{terms_put}
@@ -43,7 +42,7 @@ Runs k w tokens h = (v : Walk) × Leads k w tokens v × (having k v.mode v ≡ S
 
 -- ---- leaves
 no_sign : (k : ℕ) (p : Place) (es : List (Option ℚ)) (s : FormState) (m : Mark) → (m ≡ mark.Comma → form_next k p es m ≡ Some s → ⊥) × (m ≡ mark.Right → form_next k p es m ≡ Some s → ⊥)
-no_sign k p es s m = (λ is e. none_some s (sym (comma_none p) ∙ ap (form_next k p es) (sym is) ∙ e), λ is e. none_some s (sym (right_none p) ∙ ap (form_next k p es) (sym is) ∙ e))
+no_sign k p es s m = (λ is e. none-some s (sym (comma_none p) ∙ ap (form_next k p es) (sym is) ∙ e), λ is e. none-some s (sym (right_none p) ∙ ap (form_next k p es) (sym is) ∙ e))
   where
     comma_none : (p : Place) → form_next k p es mark.Comma ≡ None
     comma_none place.Begin = refl
@@ -71,28 +70,28 @@ form_step k p es w m s e = ap (option_map (λ (s : FormState). with_mode w (InFo
 
 -- the first one
 first_step : (k : ℕ) (w : Walk) (m : Mark) (s : FormState) → form_next k place.Begin no_entries m ≡ Some s → walk_next k Want w m ≡ Some (with_mode w (InForm s.place s.entries))
-first_step k w (mark.Word o) s e = absurd (none_some s e)
-first_step k w mark.Scale s e = absurd (none_some s e)
+first_step k w (mark.Word o) s e = absurd (none-some s e)
+first_step k w mark.Scale s e = absurd (none-some s e)
 first_step k w m s e = ap (option_map (λ (s : FormState). with_mode w (InForm s.place s.entries))) e
 
 in_form : (k : ℕ) (ts : List Plain) (s u : FormState) (w : Walk) → after (forms k) s (map mark_of ts) ≡ Some u → Leads k (with_mode w (InForm s.place s.entries)) ts (with_mode w (InForm u.place u.entries))
-in_form k [] s u w there = ap (λ (v : FormState). Some (with_mode w (InForm v.place v.entries))) (some_alike s u there)
+in_form k [] s u w there = ap (λ (v : FormState). Some (with_mode w (InForm v.place v.entries))) (same_Some s u there)
 in_form k (t ∷ ts) s u w there = go (form_next k s.place s.entries (mark_of t)) refl (λ v there'. in_form k ts v u w there')
   where
     go : (o : Option FormState) → form_next k s.place s.entries (mark_of t) ≡ o → ((v : FormState) → after (forms k) v (map mark_of ts) ≡ Some u → Leads k (with_mode w (InForm v.place v.entries)) ts (with_mode w (InForm u.place u.entries)))
         → Leads k (with_mode w (InForm s.place s.entries)) (t ∷ ts) (with_mode w (InForm u.place u.entries))
-    go None e again = absurd (none_some u (ap (option_and_then (λ v. after (forms k) v (map mark_of ts))) (sym e) ∙ there))
+    go None e again = absurd (none-some u (ap (option_and_then (λ v. after (forms k) v (map mark_of ts))) (sym e) ∙ there))
     go (Some v) e again =
         ap (option_and_then (λ v. after (walks k) v (map mark_of ts))) (form_step k s.place s.entries (with_mode w (InForm s.place s.entries)) (mark_of t) v e)
         ∙ again v (ap (option_and_then (λ v. after (forms k) v (map mark_of ts))) (sym e) ∙ there)
 
 leaf_run : (k : ℕ) (ts : List Plain) (u : FormState) (es : List (Option ℚ)) (w : Walk) → after (forms k) (forms k).start (map mark_of ts) ≡ Some u → closed k u.place u.entries ≡ Some es
     → Runs k (with_mode w Want) ts (with_leaf k w (form_with (k + 1) es))
-leaf_run k [] u es w there ends = absurd (none_some es (ap (λ (v : FormState). closed k v.place v.entries) (some_alike (forms k).start u there) ∙ ends))
+leaf_run k [] u es w there ends = absurd (none-some es (ap (λ (v : FormState). closed k v.place v.entries) (same_Some (forms k).start u there) ∙ ends))
 leaf_run k (t ∷ ts) u es w there ends = go (form_next k place.Begin no_entries (mark_of t)) refl
   where
     go : (o : Option FormState) → form_next k place.Begin no_entries (mark_of t) ≡ o → Runs k (with_mode w Want) (t ∷ ts) (with_leaf k w (form_with (k + 1) es))
-    go None e = absurd (none_some u (ap (option_and_then (λ v. after (forms k) v (map mark_of ts))) (sym e) ∙ there))
+    go None e = absurd (none-some u (ap (option_and_then (λ v. after (forms k) v (map mark_of ts))) (sym e) ∙ there))
     go (Some v) e = (
       with_mode w (InForm u.place u.entries),
       ap (option_and_then (λ v. after (walks k) v (map mark_of ts))) (first_step k (with_mode w Want) (mark_of t) v e)
@@ -102,18 +101,18 @@ leaf_run k (t ∷ ts) u es w there ends = go (form_next k place.Begin no_entries
 
 -- ---- operators
 comma_next : (k : ℕ) (m : Mode) (w h : Walk) → having k m w ≡ Some h → walk_next k m w mark.Comma ≡ comma h.frames h
-comma_next k Want w h e = absurd (none_some h e)
-comma_next k (Opens o) w h e = absurd (none_some h e)
-comma_next k Scales w h e = absurd (none_some h e)
-comma_next k (InFactor p) w h e = absurd (none_some h e)
+comma_next k Want w h e = absurd (none-some h e)
+comma_next k (Opens o) w h e = absurd (none-some h e)
+comma_next k Scales w h e = absurd (none-some h e)
+comma_next k (InFactor p) w h e = absurd (none-some h e)
 comma_next k (InForm p es) w h e = ap (option_and_then (λ (v : Walk). comma v.frames v)) e
 comma_next k Have w h e = ap (option_and_then (λ (v : Walk). comma v.frames v)) e
 
 close_next : (k : ℕ) (m : Mode) (w h : Walk) → having k m w ≡ Some h → walk_next k m w mark.Right ≡ close h.frames h
-close_next k Want w h e = absurd (none_some h e)
-close_next k (Opens o) w h e = absurd (none_some h e)
-close_next k Scales w h e = absurd (none_some h e)
-close_next k (InFactor p) w h e = absurd (none_some h e)
+close_next k Want w h e = absurd (none-some h e)
+close_next k (Opens o) w h e = absurd (none-some h e)
+close_next k Scales w h e = absurd (none-some h e)
+close_next k (InFactor p) w h e = absurd (none-some h e)
 close_next k (InForm p es) w h e = ap (option_and_then (λ (v : Walk). close v.frames v)) e
 close_next k Have w h e = ap (option_and_then (λ (v : Walk). close v.frames v)) e
 

@@ -2,6 +2,7 @@
 use Rattle.std.proofs.Common.{◌≡◌, ℕ, ◌+◌, ◌≤◌, Bool, false, List, [], ◌∷◌, ◌++◌, map, Option, Some, None, IfSome, refl, sym, ap, ◌∙◌, subst, append_assoc, append-nil}
 use Rattle.std.specs.Prelude.{codes}
 use Rattle.std.specs.Option.{option_and_then, option_map}
+use Rattle.std.proofs.lemmas.Option.{none-some, same_Some}
 use Rattle.crn_grammar.specs.Table.{after}
 use Rattle.crn_token.specs.declared.Sign.TheVariants.{LeftParen, RightParen, Comma}
 use Rattle.crn_token.specs.Plain.{Plain, PlainWord, PlainSign}
@@ -21,8 +22,6 @@ use Rattle.crn_form_text.specs.Grammar.{minus_before, SpellsSigned, SpellsFormul
 use Rattle.crn_form_text.specs.Reading.{FormState, closed, form_next, no_entries, form_with, mark_of, count_next, number_next, factor_next, factor_value, Mode, Want, Opens, Scales, InFactor, InForm, Have, Walk, with_leaf, with_mode, opened, having, comma, close, want_next, in_factor_next, in_form_next, after_form, walk_next, nothing_open, walks, whole_of}
 use Rattle.crn_form_text.specs.Built.{applied}
 use Rattle.crn_form_text.proofs.Marks.{IsMarked, marked, word_of}
-use Rattle.crn_form_text.proofs.Puts.{none_some}
-use Rattle.crn_token.proofs.Options.{some_alike}
 use Rattle.crn_form_text.proofs.NumberLaws.{WrittenCount, count_step, value_written}
 use Rattle.crn_form_text.proofs.FormLaws.{Written, StateWritten, form_written, closed_written}
 use Rattle.crn_form_text.proofs.FormSpells.{read_terms}
@@ -140,7 +139,7 @@ factor_more (place.Named v) m t n is written = absurd written
 factor_more place.Ended m t n is written = absurd written
 
 factor_is : (f : Place) (q : ℚ) (n : List Plain) → FactorWritten f n → factor_value f ≡ Some q → SpellsSigned q n
-factor_is place.Begin q n written e = absurd (none_some q e)
+factor_is place.Begin q n written e = absurd (none-some q e)
 factor_is (place.Term negative c) q n (r, written, parts) e =
     let number = value_written negative c q r written e in
     (negative, number.0, parts ∙ ap (λ l. minus_before negative ++ l) number.1, number.2)
@@ -187,12 +186,12 @@ walk_step k (InForm f es) w m t p few is written = after_written k (InForm f es)
 walk_step k Have w m t p few is written = after_written k Have w m t p few is written
 
 walk_all : (k : ℕ) (ts p : List Plain) (w u : Walk) → k ≤ 8 → WalkIs k p w → after (walks k) w (map mark_of ts) ≡ Some u → WalkIs k (p ++ ts) u
-walk_all k [] p w u few written there = subst (WalkIs k (p ++ [])) (some_alike w u there) (subst (λ l. WalkIs k l w) (sym (append-nil p)) written)
+walk_all k [] p w u few written there = subst (WalkIs k (p ++ [])) (same_Some w u there) (subst (λ l. WalkIs k l w) (sym (append-nil p)) written)
 walk_all k (t ∷ ts) p w u few written there =
     go (walk_next k w.mode w (mark_of t)) refl (λ v written' there'. subst (λ l. WalkIs k l u) (append_assoc p (t ∷ []) ts) (walk_all k ts (p ++ t ∷ []) v u few written' there'))
   where
     go : (o : Option Walk) → walk_next k w.mode w (mark_of t) ≡ o → ((v : Walk) → WalkIs k (p ++ t ∷ []) v → after (walks k) v (map mark_of ts) ≡ Some u → WalkIs k (p ++ t ∷ ts) u) → WalkIs k (p ++ t ∷ ts) u
-    go None e again = absurd (none_some u (ap (option_and_then (λ v. after (walks k) v (map mark_of ts))) (sym e) ∙ there))
+    go None e again = absurd (none-some u (ap (option_and_then (λ v. after (walks k) v (map mark_of ts))) (sym e) ∙ there))
     go (Some v) e again =
         again v (subst (λ o. IfSome o (λ v. WalkIs k (p ++ t ∷ []) v)) e (walk_step k w.mode w (mark_of t) t p few (marked t) written))
         (ap (option_and_then (λ v. after (walks k) v (map mark_of ts))) (sym e) ∙ there)
@@ -203,13 +202,13 @@ walk_written k ts h few ends = at_end (after (walks k) (walks k).start (map mark
   where
     outermost : (v g : Walk) (frames : List Frame) → nothing_open frames v ≡ Some g → WalkWritten k Have frames ts → (e : Formula) × SpellsFormula k e ts
     outermost v g [] e (q, formula, x, context, spells, is) = (formula, subst (SpellsFormula k formula) (sym (is ∙ ap (λ l. l ++ x) context)) spells)
-    outermost v g (f ∷ frames) e written = absurd (none_some g e)
+    outermost v g (f ∷ frames) e written = absurd (none-some g e)
 
     whole : (v : Walk) (o : Option Walk) → IfSome o (λ g. WalkWritten k Have g.frames ts) → option_and_then (λ (v : Walk). nothing_open v.frames v) o ≡ Some h → (e : Formula) × SpellsFormula k e ts
-    whole v None has e = absurd (none_some h e)
+    whole v None has e = absurd (none-some h e)
     whole v (Some g) has e = outermost g h g.frames e has
 
     at_end : (o : Option Walk) → after (walks k) (walks k).start (map mark_of ts) ≡ o → (e : Formula) × SpellsFormula k e ts
-    at_end None there = absurd (none_some h (ap (option_and_then (walks k).whole) (sym there) ∙ ends))
+    at_end None there = absurd (none-some h (ap (option_and_then (walks k).whole) (sym there) ∙ ends))
     at_end (Some v) there =
         whole v (having k v.mode v) (having_written k v.mode v ts few (walk_all k ts [] (walks k).start v few refl there)) (ap (option_and_then (walks k).whole) (sym there) ∙ ends)

@@ -4,6 +4,7 @@ use Rattle.std.proofs.lemmas.Bool.{cases_Bool, cases_lt}
 use Rattle.std.proofs.lemmas.List.{take_more, length-take-le}
 use Rattle.std.proofs.lemmas.Fmt.{decimal_digit}
 use Rattle.std.specs.Prelude.{codes}
+use Rattle.std.proofs.Math.Bool.{and-false, and-true}
 use Rattle.crn_token.specs.Printed.{spelled}
 use Rattle.crn_token.proofs.Joins.{spelled-append}
 use Rattle.crn_fraction.specs.Rational.{ℚ, 0ℚ, is_zero_ℚ}
@@ -26,14 +27,6 @@ some_now : (ts : List Signed) (t : Signed) → are_none (ts ++ t ∷ []) ≡ fal
 some_now [] t = refl
 some_now (s ∷ ts) t = refl
 
-and_true : (b : Bool) → (b && true) ≡ b
-and_true true = refl
-and_true false = refl
-
-and_false : (b : Bool) → (b && false) ≡ false
-and_false true = refl
-and_false false = refl
-
 -- ---- the terms of the variables
 variables_next : (c : ℕ) (qs : List ℚ) (q : ℚ) → variable_terms c (qs ++ q ∷ []) ≡ variable_terms c qs ++ variable_terms (c + length qs) (q ∷ [])
 variables_next c [] q = let none : c ≡ c + 0 = omega arith in ap (λ d. variable_terms d (q ∷ [])) none
@@ -53,8 +46,8 @@ variable_step ts column q =
 variable_first : (ts : List Signed) (column : ℕ) (q : ℚ) → are_none (ts ++ variable_terms column (q ∷ [])) ≡ (are_none ts && is_zero_ℚ q)
 variable_first ts column q =
     ⊎_elim
-    (λ none. rw none (ap are_none (append-nil ts) ∙ sym (and_true (are_none ts))))
-    (λ some. rw some (some_now ts (variable_term column q) ∙ sym (and_false (are_none ts))))
+    (λ none. rw none (ap are_none (append-nil ts) ∙ sym (and-true (are_none ts))))
+    (λ some. rw some (some_now ts (variable_term column q) ∙ sym (and-false (are_none ts))))
     (cases_Bool (is_zero_ℚ q))
 
 fracs_next : (qs : List ℚ) (q : ℚ) → AreFracs qs → IsFrac q → AreFracs (qs ++ q ∷ [])

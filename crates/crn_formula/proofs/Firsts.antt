@@ -4,6 +4,7 @@ use Rattle.std.specs.Prelude.{Some, None, IsTrue, All, Any, Contains}
 use Rattle.std.specs.List.{fold}
 use Rattle.std.proofs.lemmas.List.Sums.{AllPass-from_list_all, list_all-from_AllPass}
 use Rattle.std.proofs.lemmas.List.Elements.{All-nil, All-cons, All-head, All-tail}
+use Rattle.std.proofs.lemmas.Bool.{not-true}
 use Rattle.crn_fraction.specs.Rational.{ℚ, ◌≤ℚ◌, min_ℚ}
 use Rattle.crn_fraction.proofs.Order.{≤ℚ_refl, min_ℚ_cases}
 use Rattle.crn_fraction.proofs.Linear.{≤ℚ_trans, min_ℚ-below_left, min_ℚ-below_right}
@@ -12,14 +13,10 @@ use Rattle.crn_formula.specs.Pieces.{Piece, Holds, is_negative, all_hold, pieces
 use Rattle.crn_formula.specs.Functions.{least_value}
 use Rattle.crn_formula.proofs.Numbers.{nonneg_test}
 
-not_true : (b : Bool) → not b ≡ true → b ≡ false
-not_true true e = absurd (true≢false (sym e))
-not_true false e = refl
-
 -- the test says that the piece holds
 pub holds : (piece : Piece) (x : List ℚ) → IsTrue (all_hold piece.conditions x) ↔ Holds piece x
 holds piece x = (
-  λ e k d l. (nonneg_test _).0 (not_true _ (AllPass-from_list_all (λ c. not (is_negative (at c x))) piece.conditions e k d l)),
+  λ e k d l. (nonneg_test _).0 (not-true _ (AllPass-from_list_all (λ c. not (is_negative (at c x))) piece.conditions e k d l)),
   λ h. list_all-from_AllPass (λ c. not (is_negative (at c x))) piece.conditions (λ k d l. ap not ((nonneg_test _).1 (h k d l))),
 )
 

@@ -1,6 +1,6 @@
 -- What holds of each element of a list of which each is shown as another value, and parts of lists.
-use Rattle.std.proofs.Common.{◌≡◌, ◌↔◌, ℕ, zero, suc, ◌+◌, ◌-◌, ◌≤◌, List, [], ◌∷◌, ◌++◌, length, map, set, take, drop, Bool, ◌||◌, refl, sym, ◌∙◌, ap, arith}
-use Rattle.std.specs.Prelude.{All, replicate, sum_by}
+use Rattle.std.proofs.Common.{◌≡◌, ◌↔◌, ℕ, zero, suc, ◌+◌, List, [], ◌∷◌, ◌++◌, length, map, set, take, Bool, ◌||◌, refl, sym, ◌∙◌, ap, arith}
+use Rattle.std.specs.Prelude.{All, sum_by}
 use Rattle.std.specs.List.{list_any}
 use Rattle.std.proofs.lemmas.List.Sums.{sum_by-cons}
 use Rattle.std.proofs.lemmas.List.Elements.{All-nil, All-cons, All-head, All-tail}
@@ -28,24 +28,12 @@ module _ {X : Type 0} where
   take-set_within (suc n) (x ∷ xs) zero y = refl
   take-set_within (suc n) (x ∷ xs) (suc i) y = ap (λ l. x ∷ l) (take-set_within n xs i y)
 
-  -- the first few of one value many times
-  pub take-replicate : (n m : ℕ) (z : X) → n ≤ m → take n (replicate m z) ≡ replicate n z
-  take-replicate zero m z h = refl
-  take-replicate (suc n) zero z h = absurd (omega (arith, h))
-  take-replicate (suc n) (suc m) z h = ap (λ l. z ∷ l) (take-replicate n m z (omega (arith, h)))
-
   -- a list and the first of what follows it
   pub take_one_more : (xs : List X) (y : X) (ys : List X) → take (length xs + 1) (xs ++ y ∷ ys) ≡ xs ++ y ∷ []
   take_one_more [] y ys = refl
   take_one_more (x ∷ xs) y ys =
       let e : suc (length xs) + 1 ≡ suc (length xs + 1) = omega arith in
       ap (λ n. take n (x ∷ (xs ++ y ∷ ys))) e ∙ ap (λ l. x ∷ l) (take_one_more xs y ys)
-
-  -- the rest of one value many times
-  pub drop-replicate : (n m : ℕ) (z : X) → drop n (replicate m z) ≡ replicate (m - n) z
-  drop-replicate zero m z = let e : m ≡ m - zero = omega arith in ap (λ k. replicate k z) e
-  drop-replicate (suc n) zero z = let e : zero ≡ zero - suc n = omega arith in ap (λ k. replicate k z) e
-  drop-replicate (suc n) (suc m) z = let e : m - n ≡ suc m - suc n = omega arith in drop-replicate n m z ∙ ap (λ k. replicate k z) e
 
 -- a sum over shown values
 pub sum_by-map : {X Y : Type 0} (f : X → Y) (count : Y → ℕ) (xs : List X) → sum_by (λ x. count (f x)) xs ≡ sum_by count (map f xs)

@@ -1,7 +1,8 @@
 -- Tests of rational numbers, and what they say.
-use Rattle.std.proofs.Common.{◌≡◌, ◌↔◌, ℕ, zero, suc, ◌≤◌, List, [], ◌∷◌, length, get_or, Bool, true, false, refl, sym, ◌∙◌, subst, ⊎_elim, arith}
+use Rattle.std.proofs.Common.{◌≡◌, ◌↔◌, Bool, false, sym, ◌∙◌, subst, ⊎_elim, arith}
 use Rattle.std.specs.Prelude.{ℤ, pos, ◌≤ℤ◌, int_lt, IsTrue}
 use Rattle.std.proofs.lemmas.Int.{ints}
+use Rattle.std.proofs.lemmas.Bool.{false_from_ne_true}
 use Rattle.crn_fraction.specs.Rational.{ℚ, 0ℚ, ◌≤ℚ◌, is_zero_ℚ}
 use Rattle.crn_fraction.specs.Parts.{ratio_self}
 use Rattle.crn_fraction.proofs.Products.{nonneg_ratio, is_zero_ℚ_cases}
@@ -20,18 +21,4 @@ nonneg_test q = (λ e. (nonneg_num q).1 (omega (arith, ints, e)), λ h. sym (no_
 
 -- an exact test of 0 is the one of the definition
 pub is_zero_same : (b : Bool) (a : ℚ) → (IsTrue b ↔ (a ≡ 0ℚ)) → b ≡ is_zero_ℚ a
-is_zero_same b a h = ⊎_elim (λ z. h.1 z.0 ∙ sym z.1) (λ n. no b (λ e. n.0 (h.0 e)) ∙ sym n.1) (is_zero_ℚ_cases a)
-  where
-    no : (b : Bool) → (b ≡ true → ⊥) → b ≡ false
-    no true n = absurd (n refl)
-    no false n = refl
-
--- 0 is 0
-pub is_zero-0ℚ : is_zero_ℚ 0ℚ ≡ true
-is_zero-0ℚ = ⊎_elim (λ z. z.1) (λ n. absurd (n.0 refl)) (is_zero_ℚ_cases 0ℚ)
-
--- past the end stands what is given for it
-pub get_or_past : {X : Type 0} (xs : List X) (i : ℕ) (d : X) → length xs ≤ i → get_or xs i d ≡ d
-get_or_past [] i d h = refl
-get_or_past (x ∷ xs) zero d h = absurd (omega (arith, h))
-get_or_past (x ∷ xs) (suc i) d h = get_or_past xs i d (omega (arith, h))
+is_zero_same b a h = ⊎_elim (λ z. h.1 z.0 ∙ sym z.1) (λ n. false_from_ne_true b (λ e. n.0 (h.0 e)) ∙ sym n.1) (is_zero_ℚ_cases a)

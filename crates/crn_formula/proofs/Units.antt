@@ -1,12 +1,13 @@
 -- Rows with 1 in one column, and the three domains.
-use Rattle.std.proofs.Common.{◌≡◌, ℕ, zero, suc, ◌<◌, ◌≤◌, List, [], ◌∷◌, length, get_or, set, take, refl, sym, ◌∙◌, ap, subst, arith}
+use Rattle.std.proofs.Common.{◌≡◌, ℕ, zero, suc, ◌<◌, ◌≤◌, List, [], ◌∷◌, length, get_or, set, take, sym, ◌∙◌, ap, subst, arith}
 use Rattle.std.specs.Prelude.{ℤ, pos, replicate, All, true, false}
 use Rattle.std.proofs.lemmas.Int.{ints}
-use Rattle.std.proofs.lemmas.List.{length-set, length-replicate, get_or-replicate}
+use Rattle.std.proofs.lemmas.List.{length-set, length-replicate, get_or-replicate, take-replicate}
 use Rattle.std.proofs.lemmas.List.Elements.{All-nil, All-cons, All-append}
 use Rattle.crn_linear.specs.Rows.{Row, dot, MeetsWhole}
+use Rattle.crn_linear.proofs.Sums.{dot-zeros}
 use Rattle.crn_formula.specs.Domains.{unit, orthant_rows, IsKeptDomain}
-use Rattle.crn_formula.proofs.Lists.{take-set_within, take-replicate}
+use Rattle.crn_formula.proofs.Lists.{take-set_within}
 
 -- as many columns
 pub length-unit : (n i : ℕ) → length (unit n i) ≡ n
@@ -15,11 +16,6 @@ length-unit n i = length-set (replicate n (pos 0)) i (pos 1) ∙ length-replicat
 -- the first few of nine
 pub unit_taken : (n i : ℕ) → n ≤ 9 → take n (unit 9 i) ≡ unit n i
 unit_taken n i h = take-set_within n (replicate 9 (pos 0)) i (pos 1) ∙ ap (λ l. set l i (pos 1)) (take-replicate n 9 (pos 0) h)
-
-dot-zeros : (n : ℕ) (p : List ℤ) → dot (replicate n (pos 0)) p ≡ pos 0
-dot-zeros zero p = refl
-dot-zeros (suc n) [] = refl
-dot-zeros (suc n) (t ∷ p) = let e = dot-zeros n p in omega (arith, ints, e)
 
 -- such a row reads one column
 pub dot-unit : (n i : ℕ) (p : List ℤ) → i < n → length p ≡ n → dot (unit n i) p ≡ get_or p i (pos 0)

@@ -1,10 +1,10 @@
 //! What the definitions of rational numbers mean. The contract of each function here is a theorem about the definitions of `specs/`, or
 //! about the constants, proved with the crate.
 ghost use Rattle.std.specs.Prelude.{◌≡◌, ◌≢◌, ◌⊎◌, ◌↔◌, ◌*◌, ◌<◌, ℕ, ℤ, pos, ◌+ℤ◌, ◌*ℤ◌, IsTrue};
-ghost use Rattle.std.specs.Int.{IsGcd};
+ghost use Rattle.std.specs.Int.{IsGcd, ◌∣◌};
 ghost use Rattle.std.specs.declared.cmp.Ordering.TheVariants.{Less, Equal, Greater};
 ghost use Rattle.crn_fraction.specs.Equality.{eq_fractions};
-ghost use Rattle.crn_fraction.specs.Gcd.{gcd};
+ghost use Rattle.crn_fraction.specs.Gcd.{gcd, lcm};
 ghost use Rattle.crn_fraction.specs.Rational.{ℚ, 0ℚ, whole, ratio, ◌+ℚ◌, ◌-ℚ◌, ◌*ℚ◌, ◌/ℚ◌, ◌≤ℚ◌, ◌<ℚ◌, cmp_ℚ, min_ℚ, max_ℚ};
 
 use crate::Frac;
@@ -15,6 +15,12 @@ pub fn ratios()
     ensures value { (n : ℤ) (d : ℕ) → 0 < d → (ratio n d).num *ℤ pos d ≡ n *ℤ pos (ratio n d).den }
     ensures equal { (a b : ℚ) → (a ≡ b) ↔ (a.num *ℤ pos b.den ≡ b.num *ℤ pos a.den) }
     ensures divisor { (a b : ℕ) → IsGcd a b (gcd a b) }
+{}
+
+/// Both numbers divide their least common multiple, and it divides whatever both divide.
+pub fn multiples()
+    ensures common { (a b : ℕ) → (a ∣ lcm a b) × (b ∣ lcm a b) }
+    ensures least { (a b n : ℕ) → a ∣ n → b ∣ n → lcm a b ∣ n }
 {}
 
 /// Sums and products of ratios, in lowest terms or not; a difference and the number taken add up to the first, and a quotient

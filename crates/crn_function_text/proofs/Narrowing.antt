@@ -1,5 +1,5 @@
 -- A formula or pieces that are read are a function with the columns that they need.
-use Rattle.std.proofs.Common.{◌≡◌, ℕ, ◌+◌, ◌≤◌, ⊎_elim, Bool, true, false, not, ◌||◌, List, [], ◌∷◌, length, take, map, get_or, refl, sym, ◌∙◌, ap, ap₂, subst, arith}
+use Rattle.std.proofs.Common.{◌≡◌, ℕ, ◌+◌, ◌≤◌, Bool, true, false, not, List, [], ◌∷◌, length, take, map, get_or, refl, sym, ◌∙◌, ap, ap₂, subst, arith}
 use Rattle.std.proofs.lemmas.List.{get_or_past, length-take-le, length-map}
 use Rattle.std.proofs.lemmas.List.Folds.{list_any_none}
 use Rattle.std.proofs.lemmas.List.Elements.{All-map}
@@ -11,32 +11,27 @@ use Rattle.crn_formula.specs.Formulas.{Formula, Lin, Add, Sub, Scale, Min, Max, 
 use Rattle.crn_formula.specs.Pieces.{Piece}
 use Rattle.crn_formula.specs.Functions.{Kind, ByFormula, ByPieces, ByLeast, is_affine, columns, IsFitting, IsPieceOver, AreFewPieces, condition_count, piece_has_constant}
 use Rattle.std.proofs.lemmas.List.Sums.{sum_by-cons}
-use Rattle.crn_fraction.proofs.Products.{is_zero_ℚ_cases}
+use Rattle.std.proofs.lemmas.Bool.{or_from}
+use Rattle.crn_fraction.proofs.Products.{is_zero_ℚ-zero}
 use Rattle.crn_formula.proofs.Lists.{list_any-map}
 use Rattle.crn_form_text.specs.Grammar.{narrow}
 use Rattle.crn_form_text.specs.Built.{fitted}
 use Rattle.crn_function_text.specs.Columns.{narrow_piece, kept_columns}
 use Rattle.crn_function_text.specs.Reading.{AreKeptPieces, AreKeptForms}
 
-zero_is_zero : is_zero_ℚ 0ℚ ≡ true
-zero_is_zero = ⊎_elim (λ zero. zero.1) (λ other. absurd (other.0 refl)) (is_zero_ℚ_cases 0ℚ)
-
 -- a form without the column of constants has none
 no_constant : (k : ℕ) (f : List ℚ) → length f ≡ k + 1 → has_constant k (take k f) ≡ false
 no_constant k f long =
     let past : entry_of (take k f) k ≡ 0ℚ = get_or_past (take k f) k 0ℚ (omega (arith, length-take-le k f (omega arith))) in
-    ap (λ q. not (is_zero_ℚ q)) past ∙ ap not zero_is_zero
-
-neither : (a b : Bool) → a ≡ false → b ≡ false → (a || b) ≡ false
-neither a b no_a no_b = rw (no_a, no_b) refl
+    ap (λ q. not (is_zero_ℚ q)) past ∙ ap not (is_zero_ℚ-zero 0ℚ refl)
 
 formula_linear : (k : ℕ) (e : Formula) → IsOver (k + 1) e → formula_has_constant k (narrow k e) ≡ false
 formula_linear k (Lin form) over = no_constant k form over
-formula_linear k (Add a b) over = neither (formula_has_constant k (narrow k a)) (formula_has_constant k (narrow k b)) (formula_linear k a over.0) (formula_linear k b over.1)
-formula_linear k (Sub a b) over = neither (formula_has_constant k (narrow k a)) (formula_has_constant k (narrow k b)) (formula_linear k a over.0) (formula_linear k b over.1)
+formula_linear k (Add a b) over = or_from (formula_has_constant k (narrow k a)) (formula_has_constant k (narrow k b)) (formula_linear k a over.0) (formula_linear k b over.1)
+formula_linear k (Sub a b) over = or_from (formula_has_constant k (narrow k a)) (formula_has_constant k (narrow k b)) (formula_linear k a over.0) (formula_linear k b over.1)
 formula_linear k (Scale q a) over = formula_linear k a over
-formula_linear k (Min a b) over = neither (formula_has_constant k (narrow k a)) (formula_has_constant k (narrow k b)) (formula_linear k a over.0) (formula_linear k b over.1)
-formula_linear k (Max a b) over = neither (formula_has_constant k (narrow k a)) (formula_has_constant k (narrow k b)) (formula_linear k a over.0) (formula_linear k b over.1)
+formula_linear k (Min a b) over = or_from (formula_has_constant k (narrow k a)) (formula_has_constant k (narrow k b)) (formula_linear k a over.0) (formula_linear k b over.1)
+formula_linear k (Max a b) over = or_from (formula_has_constant k (narrow k a)) (formula_has_constant k (narrow k b)) (formula_linear k a over.0) (formula_linear k b over.1)
 
 formula_over : (k : ℕ) (e : Formula) → IsOver (k + 1) e → IsOver k (narrow k e)
 formula_over k (Lin form) over = length-take-le k form (omega (arith, over))
@@ -65,7 +60,7 @@ same_depth k (Max a b) = ap₂ (λ m n. 1 + max m n) (same_depth k a) (same_dept
 -- ---- pieces
 piece_linear : (k : ℕ) (p : Piece) → IsPieceOver (k + 1) p → piece_has_constant k (narrow_piece k p) ≡ false
 piece_linear k p over =
-    neither (has_constant k (take k p.form)) (list_any (has_constant k) (map (take k) p.conditions)) (no_constant k p.form over.form)
+    or_from (has_constant k (take k p.form)) (list_any (has_constant k) (map (take k) p.conditions)) (no_constant k p.form over.form)
     (list_any-map (take k) (has_constant k) p.conditions ∙ list_any_none (λ c. has_constant k (take k c)) p.conditions (λ i d within. no_constant k (get_or p.conditions i d) (over.conditions i d within)))
 
 piece_over : (k : ℕ) (p : Piece) → IsPieceOver (k + 1) p → IsPieceOver k (narrow_piece k p)
@@ -162,7 +157,7 @@ kept_fits k ps some few kept = go (list_any (piece_has_constant k) ps) refl
 forms_linear : (k : ℕ) (fs : List (List ℚ)) → All (λ f. length f ≡ k) fs → is_affine k (ByLeast fs) ≡ false
 forms_linear k fs long =
     list_any_none (has_constant k) fs (λ i d within.
-    ap (λ q. not (is_zero_ℚ q)) (get_or_past (get_or fs i d) k 0ℚ (omega (arith, long i d within))) ∙ ap not zero_is_zero)
+    ap (λ q. not (is_zero_ℚ q)) (get_or_past (get_or fs i d) k 0ℚ (omega (arith, long i d within))) ∙ ap not (is_zero_ℚ-zero 0ℚ refl))
 
 pub forms_fit : (k : ℕ) (fs : List (List ℚ)) → 1 ≤ k → k ≤ 8 → AreKeptForms k fs → IsFitting k (ByLeast fs)
 forms_fit k fs some few kept = record {

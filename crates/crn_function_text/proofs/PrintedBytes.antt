@@ -7,7 +7,7 @@ use Rattle.std.specs.List.{flat_map}
 use Rattle.crn_token.specs.declared.Sign.TheVariants.{AtLeast}
 use Rattle.crn_token.specs.Plain.{PlainWord, PlainNumber, PlainSign, plain_lines}
 use Rattle.crn_token.specs.Printed.{Item, Shown, Blank, IsToken, IsPrinted, AreLines, lines_read, printed}
-use Rattle.crn_token.proofs.PrintedLaws.{text_reads}
+use Rattle.crn_token.proofs.PrintedLaws.{text_reads, AreLines-append}
 use Rattle.crn_fraction.specs.Rational.{ℚ}
 use Rattle.crn_formula.specs.Pieces.{Piece}
 use Rattle.crn_formula.specs.Functions.{Kind, ByFormula, ByPieces, ByLeast}
@@ -15,10 +15,6 @@ use Rattle.crn_form_text.specs.Printing.{form_items, formula_items, AreFracsOf}
 use Rattle.crn_form_text.proofs.ItemLaws.{form_is_printed, formula_is_printed}
 use Rattle.crn_function_text.specs.Grammar.{PlainFunction}
 use Rattle.crn_function_text.specs.Printing.{function_lines, function_text, kind_lines, kind_word, word_line, when_line, form_line, piece_lines, ArePieceFracs, AreKindFracs}
-
-lines-append : (xs ys : List (List Item)) → AreLines xs → AreLines ys → AreLines (xs ++ ys)
-lines-append [] ys first second = second
-lines-append (x ∷ xs) ys (is, some, more) second = (is, some, lines-append xs ys more second)
 
 -- a word that is one, and then what is printed so
 word_is : (word : List ℕ) (items : List Item) (lines : List (List Item)) → IsToken (PlainWord word) → IsPrinted items → AreLines lines → AreLines (word_line word items ∷ lines)
@@ -44,7 +40,7 @@ pieces_are : (k : ℕ) (ps : List Piece) → k ≤ 8 → All (ArePieceFracs k) p
 pieces_are k [] few fits = tt
 pieces_are k (p ∷ ps) few fits =
     let here = fits 0 p (omega arith) in
-    lines-append (piece_lines k p) (flat_map (piece_lines k) ps)
+    AreLines-append (piece_lines k p) (flat_map (piece_lines k) ps)
     (word_is (codes "piece") (form_items k p.form) (map (when_line k) p.conditions) refl (form_alone k p.form few here.0) (whens_are k p.conditions few here.1))
     (pieces_are k ps few (λ i d within. fits (suc i) d (omega (arith, within))))
 

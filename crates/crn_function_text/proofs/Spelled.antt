@@ -1,25 +1,23 @@
 -- The formula that tokens spell.
-use Rattle.std.proofs.Common.{◌≡◌, ◌≢◌, ℕ, suc, ◌+◌, ◌<◌, ◌≤◌, Bool, true, false, cond, List, [], ◌∷◌, ◌++◌, length, map, Option, Some, None, refl, sym, ◌∙◌, ap, subst, arith, append-nil, append_assoc, length-append, lt-ltb, take, ⊎_elim, take_all, eqb-true}
+use Rattle.std.proofs.Common.{◌≡◌, ◌≢◌, ℕ, ◌+◌, ◌<◌, ◌≤◌, Bool, true, false, cond, List, [], ◌∷◌, ◌++◌, length, map, Option, Some, None, refl, sym, ◌∙◌, ap, subst, arith, append-nil, append_assoc, length-append, lt-ltb, take, ⊎_elim, take_all, eqb-true}
 use Rattle.std.proofs.lemmas.Bool.{le-leb, leb-true, cases_Bool, eqb-false}
 use Rattle.std.proofs.lemmas.List.{length-take-le, length-replicate, get_or_default}
 use Rattle.std.proofs.lemmas.List.Elements.{All-take, All-replicate}
 use Rattle.std.specs.Prelude.{All, nat_le, ◌==◌, pos, codes, slice_set}
 use Rattle.std.specs.Option.{option_map}
 use Rattle.crn_fraction.specs.Rational.{ℚ, 0ℚ, whole, ◌≤ℚ◌}
-use Rattle.crn_fraction.proofs.Products.{whole_nonneg, nonneg_ratio}
-use Rattle.crn_fraction.proofs.Values.{quotient_positive}
-use Rattle.std.proofs.lemmas.Int.{ints}
+use Rattle.crn_fraction.proofs.Products.{whole_nonneg}
+use Rattle.std.proofs.lemmas.Option.{none-some, same_Some}
 use Rattle.crn_formula.specs.Formulas.{Formula, Lin, Add, Sub, Scale, Min, Max, node_count, depth_of, IsOver}
 use Rattle.crn_token.specs.Plain.{Plain, PlainWord, PlainNumber}
-use Rattle.crn_form_text.specs.Grammar.{Numeral, Whole, Over, Term, Variable, Multiple, Constant, Signed, signed, fraction, coefficient, coefficient_of, column_of, entry_in, ArePlain, SpellsPlain, SpellsFormula, narrow}
+use Rattle.crn_form_text.specs.Grammar.{signed, SpellsPlain, SpellsFormula, narrow}
 use Rattle.crn_form_text.specs.Reading.{Walk, walks, whole_of, mark_of, keep, no_entries, form_with, form_of, plain_form_at}
 use Rattle.crn_form_text.specs.Built.{postfix, builds, IsWalkOf}
-use Rattle.crn_form_text.proofs.Puts.{none_some}
-use Rattle.crn_token.proofs.Options.{some_alike}
 use Rattle.crn_form_text.proofs.BuildLaws.{walk_is, built_whole, narrow_all, length-postfix}
 use Rattle.crn_form_text.proofs.WalkRuns.{kept, walk_spelled}
 use Rattle.crn_form_text.proofs.FormSpells.{form_spelled}
 use Rattle.crn_form_text.proofs.PlainSpells.{IsFound, plain_found}
+use Rattle.crn_form_text.proofs.Meanings.{entry_nonnegative}
 use Rattle.crn_function_text.specs.Spelled.{formula_by, formula_of}
 use Rattle.crn_function_text.specs.Grammar.{plain_form_of, if_all}
 
@@ -41,8 +39,8 @@ record IsNamed (k : ℕ) (ts : List Plain) (v : Walk) (o : Option Formula) : Typ
 found_by : (k : ℕ) (ts : List Plain) (v : Walk) (b : Bool) (few : nat_le k 8 ≡ b) (o : Option Walk) (ends : whole_of (walks k) (map mark_of ts) ≡ o) → b ≡ true → o ≡ Some v → IsNamed k ts v (formula_by k ts b few o ends)
 found_by k ts v true few (Some u) ends is there =
     let (e, spelled, walked) = walk_is k ts u (leb-true k 8 few) ends in
-    record { formula = e; found = refl; spelled = spelled; walked = subst (IsWalkOf k e) (some_alike u v there) walked }
-found_by k ts v true few None ends is there = absurd (none_some v there)
+    record { formula = e; found = refl; spelled = spelled; walked = subst (IsWalkOf k e) (same_Some u v there) walked }
+found_by k ts v true few None ends is there = absurd (none-some v there)
 found_by k ts v false few o ends is there = let wrong : false ≡ true = is in cc
 
 -- a formula that is spelled is found, with its counts, and where it is small it is the only one
@@ -61,14 +59,14 @@ formula_found k e ts few spelled =
       λ small.
           let same : postfix is.formula ≡ postfix e = sym (is.walked.items (omega arith)) ∙ kept_all [] (postfix e) (omega (arith, length-postfix e)) in
           let built : Some (narrow (k + 1) is.formula) ≡ Some (narrow (k + 1) e) = sym (built_whole (k + 1) is.formula) ∙ ap (whole_of (builds (k + 1))) same ∙ built_whole (k + 1) e in
-          sym (narrow_all k is.formula ts is.spelled) ∙ some_alike (narrow (k + 1) is.formula) (narrow (k + 1) e) built ∙ narrow_all k e ts spelled,
+          sym (narrow_all k is.formula ts is.spelled) ∙ same_Some (narrow (k + 1) is.formula) (narrow (k + 1) e) built ∙ narrow_all k e ts spelled,
     )
 
 spelled_by : (k : ℕ) (e : Formula) (ts : List Plain) (b : Bool) (few : nat_le k 8 ≡ b) (o : Option Walk) (ends : whole_of (walks k) (map mark_of ts) ≡ o) → b ≡ true → formula_by k ts b few o ends ≡ Some e → SpellsFormula k e ts
 spelled_by k e ts true few (Some u) ends is found =
     let (d, spelled, walked) = walk_is k ts u (leb-true k 8 few) ends in
-    subst (λ f. SpellsFormula k f ts) (some_alike d e found) spelled
-spelled_by k e ts true few None ends is found = absurd (none_some e found)
+    subst (λ f. SpellsFormula k f ts) (same_Some d e found) spelled
+spelled_by k e ts true few None ends is found = absurd (none-some e found)
 spelled_by k e ts false few o ends is found = let wrong : false ≡ true = is in cc
 
 pub formula_spelled : (k : ℕ) (e : Formula) (ts : List Plain) → k ≤ 8 → formula_of k ts ≡ Some e → SpellsFormula k e ts
@@ -92,15 +90,15 @@ pub all_found : (k : ℕ) (f : List ℚ) (ts : List Plain) → k ≤ 8 → plain
 all_found k f ts few is = go (plain_form_at k ts) refl is
   where
     go : (o : Option (List ℚ × ℕ)) → plain_form_at k ts ≡ o → if_all (length ts) o ≡ Some f → SpellsPlain k f ts
-    go None e found = absurd (none_some f found)
+    go None e found = absurd (none-some f found)
     go (Some (g, n)) e found = whole (n == length ts) refl found
       where
         whole : (b : Bool) → (n == length ts) ≡ b → cond b (Some g) None ≡ Some f → SpellsPlain k f ts
-        whole false other found = absurd (none_some f found)
+        whole false other found = absurd (none-some f found)
         whole true same found =
             let at_end : n ≡ length ts = eqb-true n (length ts) same in
             let is_found : IsFound k ts (Some (g, n)) = subst (IsFound k ts) e (plain_found k ts few) in
-            subst (λ h. SpellsPlain k h ts) (some_alike g f found) (subst (SpellsPlain k g) (ap (λ m. take m ts) at_end ∙ take_all (length ts) ts (omega arith)) is_found.1)
+            subst (λ h. SpellsPlain k h ts) (same_Some g f found) (subst (SpellsPlain k g) (ap (λ m. take m ts) at_end ∙ take_all (length ts) ts (omega arith)) is_found.1)
 
 -- and where they are no such form, they spell none
 pub none_found : (k : ℕ) (f : List ℚ) (ts : List Plain) → k ≤ 8 → plain_form_of k ts ≡ None → SpellsPlain k f ts → ⊥
@@ -114,7 +112,7 @@ none_found k f ts few is spells = go (plain_form_at k ts) (plain_found k ts few)
     go (Some (g, n)) found none = ends (n == length ts) refl none
       where
         ends : (b : Bool) → (n == length ts) ≡ b → cond b (Some g) None ≡ None → ⊥
-        ends true same wrong = absurd (none_some g (sym wrong))
+        ends true same wrong = absurd (none-some g (sym wrong))
         ends false other wrong = let apart : n ≢ length ts = eqb-false n (length ts) other in found.2 (length ts) f (omega (arith, found.0, apart)) (omega arith) all
 
 pub plain_form_long : (k : ℕ) (f : List ℚ) (ts : List Plain) → k ≤ 8 → plain_form_of k ts ≡ Some f → length f ≡ k
@@ -123,28 +121,6 @@ plain_form_long k f ts few is =
     (λ zeros. ap length zeros.1 ∙ length-replicate k 0ℚ)
     (λ (affine, terms, are, plain, tokens, form). ap length form ∙ length-take-le k affine (omega (arith, are.long)))
     (all_found k f ts few is)
-
--- a number that is written without `-` is not negative
-pub number_nonnegative : (n : Numeral) → 0ℚ ≤ℚ fraction false n
-number_nonnegative (Whole n) = whole_nonneg n
-number_nonnegative (Over n e) =
-    subst (λ q. 0ℚ ≤ℚ q) (quotient_positive (pos n) (pos (suc e)) (pos n) (suc e) (omega (arith, ints)) refl refl) ((nonneg_ratio (pos n) (suc e) (omega arith)).1 (omega (arith, ints)))
-
-term_nonnegative : (t : Signed) → t.negative ≡ false → 0ℚ ≤ℚ coefficient t
-term_nonnegative t plain = subst (λ b. 0ℚ ≤ℚ coefficient_of b t.term) (sym plain) (go t.term)
-  where
-    go : (term : Term) → 0ℚ ≤ℚ coefficient_of false term
-    go (Variable column) = whole_nonneg 1
-    go (Multiple n column) = number_nonnegative n
-    go (Constant n) = number_nonnegative n
-
-entry_nonnegative : (k : ℕ) (terms : List Signed) (column : ℕ) → ArePlain terms → 0ℚ ≤ℚ entry_in k terms column
-entry_nonnegative k [] column plain = whole_nonneg 0
-entry_nonnegative k (t ∷ terms) column plain = go (column_of k t.term == column) (entry_nonnegative k terms column plain.2)
-  where
-    go : (b : Bool) → 0ℚ ≤ℚ entry_in k terms column → 0ℚ ≤ℚ cond b (coefficient t) (entry_in k terms column)
-    go true rest = term_nonnegative t plain.0
-    go false rest = rest
 
 pub plain_form_nonnegative : (k : ℕ) (f : List ℚ) (ts : List Plain) → k ≤ 8 → plain_form_of k ts ≡ Some f → All (λ c. 0ℚ ≤ℚ c) f
 plain_form_nonnegative k f ts few is =

@@ -75,10 +75,7 @@ fn read_part(
         if !place.allows(word) {
             return part_up_to(place, line.number, index);
         }
-        match place.after(alloc, bytes, line, word) {
-            Ok(next) => place = next,
-            Err(error) => return Err(error),
-        }
+        place = place.after(alloc, bytes, line, word)?;
     }
     part_up_to(place, lines.count + 1, lines.lines.len())
 }
@@ -94,10 +91,8 @@ fn part_up_to(
     ensures next { IfOk result (λ r. r.1 ≡ index) }
     ensures domain { IfOk result (λ r. r.0.domain ≡ domain_for r.0.variables (kind_of r.0.kind)) }
 {
-    match place.function(number) {
-        Ok(function) => Ok((function, index)),
-        Err(error) => Err(error),
-    }
+    let function = place.function(number)?;
+    Ok((function, index))
 }
 
 /// The function of a text.
@@ -118,17 +113,12 @@ fn read_text(alloc: Global, bytes: &[u8]) -> Result<Function, FunctionTextError>
     ensures domain { IfOk result (λ f. f.domain ≡ domain_for f.variables (kind_of f.kind)) }
 {
     let lines = token_lines(alloc, bytes)?;
-    match read_function_lines(alloc, bytes, &lines, 0) {
-        Ok((function, next)) => {
-            if next < lines.lines.len() {
-                let line = lines.lines[next].number;
-                Err(FunctionTextError::Malformed { line })
-            } else {
-                Ok(function)
-            }
-        }
-        Err(error) => Err(error),
+    let (function, next) = read_function_lines(alloc, bytes, &lines, 0)?;
+    if next < lines.lines.len() {
+        let line = lines.lines[next].number;
+        return Err(FunctionTextError::Malformed { line });
     }
+    Ok(function)
 }
 
 #[cfg(test)]

@@ -15,10 +15,8 @@ fn limit(what: Counted, count: u64) -> Result<bool, FunctionTextError> {
 
 // Whether the function that was read is affine, or why none was.
 fn read(alloc: Global, text: &[u8]) -> Result<bool, FunctionTextError> {
-    match read_function(alloc, text) {
-        Ok(function) => Ok(function.is_affine()),
-        Err(error) => Err(error),
-    }
+    let function = read_function(alloc, text)?;
+    Ok(function.is_affine())
 }
 
 #[test]

@@ -1,5 +1,5 @@
 -- The counts of gates: 1, and the numerators and denominators of factors.
-use Rattle.std.proofs.Common.{ℕ, zero, suc, ◌+◌, ◌<◌, ◌^◌, ◌==◌, Bool, true, false, cond, ℤ, pos, negsuc, List, [], ◌∷◌, ◌++◌, length, lit<}
+use Rattle.std.proofs.Common.{ℕ, zero, suc, ◌<◌, ◌^◌, ◌==◌, Bool, true, false, cond, ℤ, pos, negsuc, List, [], ◌∷◌, ◌++◌, length, lit<}
 use Rattle.std.specs.Prelude.{unsigned_abs}
 use Rattle.crn_fraction.specs.Rational.{ℚ}
 use Rattle.crn_fraction.specs.Frac.{IsFrac}

@@ -1,11 +1,11 @@
 -- What fanning out makes.
-use Rattle.std.proofs.Common.{◌≡◌, ◌≢◌, ℕ, zero, suc, ◌+◌, ◌<◌, ◌≤◌, ◌==◌, if◌then◌else◌, true, false, List, [], ◌∷◌, ◌++◌, length, get_or, refl, sym, ◌∙◌, ap, ap₂, subst, ◌⊎◌, inl, inr, ⊎_elim, eq-or-lt_of_le, arith, zero-add}
-use Rattle.std.proofs.lemmas.Bool.Decides.{nat_tests}
+use Rattle.std.proofs.Common.{◌≡◌, ◌≢◌, ℕ, zero, suc, ◌+◌, ◌<◌, ◌≤◌, ◌==◌, if◌then◌else◌, List, [], ◌∷◌, ◌++◌, length, get_or, refl, sym, ◌∙◌, ap, ap₂, subst, ◌⊎◌, inl, inr, ⊎_elim, eq-or-lt_of_le, arith, zero-add}
 use Rattle.std.specs.Prelude.{pos}
+use Rattle.std.proofs.lemmas.Bool.{cases_eq, eq-eqb, ne_eqb}
 use Rattle.crn_fraction.proofs.Products.{/ℚ-one}
 use Rattle.crn_fraction.proofs.Ring.{one-*ℚ, +ℚ-zero, zero-*ℚ}
 use Rattle.crn_fraction.specs.Rational.{ℚ, ◌+ℚ◌, ◌*ℚ◌, whole}
-use Rattle.crn_gates.proofs.GateLaws.{other_test, own_test, FeedsForward-append, taken_all-append, given_all-append}
+use Rattle.crn_gates.proofs.GateLaws.{FeedsForward-append, taken_all-append, given_all-append}
 use Rattle.crn_gates.proofs.Lists.{EachGiven-append, EachReaction-append}
 use Rattle.crn_gates.proofs.Stamping.{EachTaken-append}
 use Rattle.crn_gates.specs.Building.{IsSound, IsFree}
@@ -15,6 +15,7 @@ use Rattle.crn_net.proofs.Made.{made_by-append}
 use Rattle.crn_net.specs.Network.{Part, count_of, AreParts}
 use Rattle.crn_net.specs.Reactions.{Each, EachTaken, EachGiven, IsLeftAlone, FeedsForward, EachReaction}
 use Rattle.crn_net.specs.Totals.{made_by}
+use Rattle.crn_net.proofs.Shape.{if_same, if_other}
 
 -- 1 where the numbers are the same
 abbrev hit : ℕ → ℕ → ℕ
@@ -25,18 +26,9 @@ copies_step : (rail r : ℕ) (rs : List ℕ) (n : ℕ) →
     ((r ≡ rail) × (copies_of rail (r ∷ rs) n ≡ one (suc n) ∷ copies_of rail rs (suc n)))
     ⊎ ((r ≢ rail) × (copies_of rail (r ∷ rs) n ≡ copies_of rail rs (suc n)))
 copies_step rail r rs n =
-    ⊎_elim (λ (e : r ≡ rail). inl (e, ap (λ b. if b then one (suc n) ∷ copies_of rail rs (suc n) else copies_of rail rs (suc n)) (yes_same r rail e)))
-    (λ (h : r ≢ rail). inr (h, ap (λ b. if b then one (suc n) ∷ copies_of rail rs (suc n) else copies_of rail rs (suc n)) (no_other r rail h)))
-    (either r rail)
-  where
-    either : (a b : ℕ) → (a ≡ b) ⊎ (a ≢ b)
-    either a b = grind arith
-
-    yes_same : (a b : ℕ) → a ≡ b → (a == b) ≡ true
-    yes_same a b e = grind (arith, nat_tests)
-
-    no_other : (a b : ℕ) → a ≢ b → (a == b) ≡ false
-    no_other a b e = grind (arith, nat_tests)
+    ⊎_elim (λ (e : r ≡ rail). inl (e, ap (λ b. if b then one (suc n) ∷ copies_of rail rs (suc n) else copies_of rail rs (suc n)) (eq-eqb r rail e)))
+    (λ (h : r ≢ rail). inr (h, ap (λ b. if b then one (suc n) ∷ copies_of rail rs (suc n) else copies_of rail rs (suc n)) (ne_eqb r rail h)))
+    (cases_eq r rail)
 
 -- copies stand in order after n
 pub copies_are_parts : (rail : ℕ) (rs : List ℕ) (n low top : ℕ) → low ≤ n → n + length rs ≤ top → AreParts low top (copies_of rail rs n)
@@ -54,7 +46,7 @@ copies_low rail [] n s l = refl
 copies_low rail (r ∷ rs) n s l =
     let rest : count_of (copies_of rail rs (suc n)) s ≡ 0 = copies_low rail rs (suc n) s (omega arith) in
     ⊎_elim (λ (c : (r ≡ rail) × (copies_of rail (r ∷ rs) n ≡ one (suc n) ∷ copies_of rail rs (suc n))).
-    ap (λ ps. count_of ps s) c.1 ∙ ap₂ (λ x y. x + y) (other_test (suc n) s 1 (omega arith)) rest)
+    ap (λ ps. count_of ps s) c.1 ∙ ap₂ (λ x y. x + y) (if_other (suc n) s 1 (omega arith)) rest)
     (λ (c : (r ≢ rail) × (copies_of rail (r ∷ rs) n ≡ copies_of rail rs (suc n))). ap (λ ps. count_of ps s) c.1 ∙ rest)
     (copies_step rail r rs n)
 
@@ -64,15 +56,15 @@ copies_at rail [] n i l = absurd (omega arith)
 copies_at rail (r ∷ rs) n zero l =
     let rest : count_of (copies_of rail rs (suc n)) (suc (n + 0)) ≡ 0 = copies_low rail rs (suc n) (suc (n + 0)) (omega arith) in
     ⊎_elim (λ (c : (r ≡ rail) × (copies_of rail (r ∷ rs) n ≡ one (suc n) ∷ copies_of rail rs (suc n))).
-    ap (λ ps. count_of ps (suc (n + 0))) c.1 ∙ ap₂ (λ x y. x + y) (own_test (suc n) (suc (n + 0)) 1 (omega arith)) rest ∙ sym (own_test r rail 1 c.0))
-    (λ (c : (r ≢ rail) × (copies_of rail (r ∷ rs) n ≡ copies_of rail rs (suc n))). ap (λ ps. count_of ps (suc (n + 0))) c.1 ∙ rest ∙ sym (other_test r rail 1 c.0))
+    ap (λ ps. count_of ps (suc (n + 0))) c.1 ∙ ap₂ (λ x y. x + y) (if_same (suc n) (suc (n + 0)) 1 (omega arith)) rest ∙ sym (if_same r rail 1 c.0))
+    (λ (c : (r ≢ rail) × (copies_of rail (r ∷ rs) n ≡ copies_of rail rs (suc n))). ap (λ ps. count_of ps (suc (n + 0))) c.1 ∙ rest ∙ sym (if_other r rail 1 c.0))
     (copies_step rail r rs n)
 copies_at rail (r ∷ rs) n (suc i) l =
     let move : suc (n + suc i) ≡ suc (suc n + i) = omega arith in
     let rest : count_of (copies_of rail rs (suc n)) (suc (n + suc i)) ≡ hit (get_or rs i 0) rail =
     ap (λ s. count_of (copies_of rail rs (suc n)) s) move ∙ copies_at rail rs (suc n) i (omega arith) in
     ⊎_elim (λ (c : (r ≡ rail) × (copies_of rail (r ∷ rs) n ≡ one (suc n) ∷ copies_of rail rs (suc n))).
-    ap (λ ps. count_of ps (suc (n + suc i))) c.1 ∙ ap₂ (λ x y. x + y) (other_test (suc n) (suc (n + suc i)) 1 (omega arith)) rest ∙ zero-add _)
+    ap (λ ps. count_of ps (suc (n + suc i))) c.1 ∙ ap₂ (λ x y. x + y) (if_other (suc n) (suc (n + suc i)) 1 (omega arith)) rest ∙ zero-add _)
     (λ (c : (r ≢ rail) × (copies_of rail (r ∷ rs) n ≡ copies_of rail rs (suc n))). ap (λ ps. count_of ps (suc (n + suc i))) c.1 ∙ rest)
     (copies_step rail r rs n)
 
@@ -97,7 +89,7 @@ module _ (rs : List ℕ) (n : ℕ) where
   fans_other rail zero m i l h = refl
   fans_other rail (suc j) m i l h =
       ap (λ f. f (suc (n + i))) (made_by-append (fan rail (copies_of rail rs n)) _ m) ∙ fans_other (suc rail) j _ i l (omega arith)
-      ∙ fan_left rail _ m (suc (n + i)) (copies_at rail rs n i l ∙ other_test (get_or rs i 0) rail 1 (omega arith))
+      ∙ fan_left rail _ m (suc (n + i)) (copies_at rail rs n i l ∙ if_other (get_or rs i 0) rail 1 (omega arith))
 
   -- a copy gets what its rail has
   pub fans_make : (rail j : ℕ) (m : ℕ → ℚ) (i : ℕ) → i < length rs → rail ≤ get_or rs i 0 → get_or rs i 0 < rail + j → get_or rs i 0 ≤ n →
@@ -109,11 +101,11 @@ module _ (rs : List ℕ) (n : ℕ) where
       ap (λ f. f (suc (n + i))) (made_by-append (fan rail gs) _ m)
       ∙ ⊎_elim (λ (e : rail ≡ r).
       fans_other (suc rail) j _ i l (omega arith)
-      ∙ fan_makes rail gs m (suc (n + i)) ∙ ap (λ k. m (suc (n + i)) +ℚ whole (pos k) *ℚ m rail) (copies_at rail rs n i l ∙ own_test r rail 1 (sym e))
+      ∙ fan_makes rail gs m (suc (n + i)) ∙ ap (λ k. m (suc (n + i)) +ℚ whole (pos k) *ℚ m rail) (copies_at rail rs n i l ∙ if_same r rail 1 (sym e))
       ∙ ap (λ x. m (suc (n + i)) +ℚ x) (one-*ℚ _ ∙ ap m e))
       (λ (k : rail < r).
       fans_make (suc rail) j (made_by (fan rail gs) m) i l (omega arith) (omega arith) inside
-      ∙ ap₂ (λ x y. x +ℚ y) (fan_left rail gs m (suc (n + i)) (copies_at rail rs n i l ∙ other_test r rail 1 (omega arith))) (fan_left rail gs m r (copies_low rail rs n r inside)))
+      ∙ ap₂ (λ x y. x +ℚ y) (fan_left rail gs m (suc (n + i)) (copies_at rail rs n i l ∙ if_other r rail 1 (omega arith))) (fan_left rail gs m r (copies_low rail rs n r inside)))
       (eq-or-lt_of_le low)
 
 -- ---- fanning out feeds forward
@@ -146,7 +138,7 @@ fan_feeds rail (c ∷ cs) h = ((h, tt), ((refl, refl), tt), tt)
 -- it leaves alone what is neither the rail nor a copy of it
 fan_alone : (rail : ℕ) (gs : List Part) (s : ℕ) → s ≢ rail → count_of gs s ≡ 0 → IsLeftAlone (fan rail gs) s
 fan_alone rail [] s h e = (refl, refl)
-fan_alone rail (c ∷ cs) s h e = (ap (λ k. k + 0 + 0) (other_test rail s 1 (λ x. h (sym x))), ap (λ k. k + 0) e)
+fan_alone rail (c ∷ cs) s h e = (ap (λ k. k + 0 + 0) (if_other rail s 1 (λ x. h (sym x))), ap (λ k. k + 0) e)
 
 module _ (rs : List ℕ) (n : ℕ) where
   -- a smaller rail is left alone by the later ones

@@ -32,11 +32,11 @@ abbrev pub AreApart : List ℕ → List ℕ → Type 0
 AreApart [] xs = Unit {0}
 AreApart (y ∷ ys) xs = IsApart y xs × AreApart ys xs
 
-nothing_apart : (ys : List ℕ) → AreApart ys []
+pub nothing_apart : (ys : List ℕ) → AreApart ys []
 nothing_apart [] = tt
 nothing_apart (y ∷ ys) = (tt, nothing_apart ys)
 
-AreApart-cons : (x : ℕ) (xs ys : List ℕ) → IsApart x ys → AreApart ys xs → AreApart ys (x ∷ xs)
+pub AreApart-cons : (x : ℕ) (xs ys : List ℕ) → IsApart x ys → AreApart ys xs → AreApart ys (x ∷ xs)
 AreApart-cons x xs [] h k = tt
 AreApart-cons x xs (y ∷ ys) h k = ((λ e. h.0 (sym e), k.0), AreApart-cons x xs ys h.1 k.1)
 

@@ -5,6 +5,7 @@ use Rattle.std.proofs.Math.Seq.{take-suc}
 use Rattle.crn_fraction.specs.Rational.{ℚ, 0ℚ, ◌+ℚ◌, ◌-ℚ◌, ◌*ℚ◌}
 use Rattle.crn_net.specs.Network.{Reaction, IsApart}
 use Rattle.crn_net.specs.Totals.{made_in}
+use Rattle.crn_net.specs.Reactions.{AreAtMost}
 use Rattle.crn_gates.proofs.BuildingLaws.{scale_stamps, leaf_stamps}
 use Rattle.crn_gates.proofs.InRun.{scale_in_run, leaf_in_run}
 use Rattle.crn_gates.proofs.Factors.{factor_is, times_factor}
@@ -13,7 +14,7 @@ use Rattle.crn_gates.proofs.Transfers.{renamed-append}
 use Rattle.crn_gates.specs.Building.{IsSound, AllFree, Stamps}
 use Rattle.crn_gates.specs.Calls.{Moves, IsMade}
 use Rattle.crn_gates.specs.Drafts.{Draft, IsDraft}
-use Rattle.crn_gates.specs.Gates.{Built, Factor, Zero, Up, Down, stamped, slot_species, renamed, transfer, transfer_single, scale_table, leaf_table, leaf_from, factor_of, width_of, terms_at, AreOperands, AreAtMost}
+use Rattle.crn_gates.specs.Gates.{Built, Factor, Zero, Up, Down, stamped, slot_species, renamed, transfer, transfer_single, scale_table, leaf_table, leaf_from, factor_of, width_of, terms_at, AreOperands}
 use Rattle.crn_gates.specs.Pairs.{rails_of_pair, rails_of_pairs, rails_of_terms, operands_of, reactions_of_terms, pair_after, value_of, value_of_factored}
 use Rattle.crn_gates.specs.Values.{MakesOfTwo, StampsOnTwo}
 use Rattle.crn_gates.specs.declared.Pair.{Pair}
@@ -133,13 +134,13 @@ module _ (q : ℚ) (b b' : Built) (a y : Pair) (ok : IsSound b) (free : AllFree 
 -- ---- leaves
 
 -- the rails of terms are as many as their operands have
-rails_width : (ts : List (ℚ × Copied)) → length (rails_of_terms ts) ≡ width_of (operands_of ts)
+pub rails_width : (ts : List (ℚ × Copied)) → length (rails_of_terms ts) ≡ width_of (operands_of ts)
 rails_width [] = refl
 rails_width ((q, Both p) ∷ ts) = ap (λ n. suc (suc n)) (rails_width ts)
 rails_width ((q, Single r) ∷ ts) = ap suc (rails_width ts)
 
 -- their operands are operands
-operands_are : (ts : List (ℚ × Copied)) → AreOperands (operands_of ts)
+pub operands_are : (ts : List (ℚ × Copied)) → AreOperands (operands_of ts)
 operands_are [] = tt
 operands_are ((q, Both p) ∷ ts) = (factor_is q, operands_are ts)
 operands_are ((q, Single r) ∷ ts) = (factor_is q, operands_are ts)

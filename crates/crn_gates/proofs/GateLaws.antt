@@ -9,10 +9,11 @@ use Rattle.crn_fraction.proofs.Products.{/ℚ-one, sub_ℚ-/ℚ}
 use Rattle.crn_fraction.proofs.Ratios.{by_common_4}
 use Rattle.crn_fraction.proofs.Ring.{+ℚ-zero, one-*ℚ, zero-*ℚ, +ℚ--ℚ-+ℚ, *ℚ--ℚ, sub_ℚ_flip, zero-+ℚ, ring_ℚ, q-writes}
 use Rattle.crn_fraction.specs.Rational.{ℚ, 0ℚ, ◌+ℚ◌, ◌-ℚ◌, ◌*ℚ◌, whole, ◌/ℚ◌, min_ℚ, max_ℚ}
-use Rattle.crn_gates.specs.Gates.{slot_species, renamed_parts, renamed, part, reaction, min_table, add_table, sub_table, max_table, Factor, Zero, Up, Down, transfer, transfer_single, AreAtMost, times}
+use Rattle.crn_gates.specs.Gates.{slot_species, renamed_parts, renamed, part, reaction, min_table, add_table, sub_table, max_table, Factor, Zero, Up, Down, transfer, transfer_single, times}
 use Rattle.crn_net.specs.Network.{Part, Reaction, count_of, greatest, IsApart, AreDifferent}
-use Rattle.crn_net.specs.Reactions.{taken_all, given_all, Each, EachTaken, IsLeftAlone, FeedsForward}
+use Rattle.crn_net.specs.Reactions.{taken_all, given_all, Each, EachTaken, IsLeftAlone, FeedsForward, AreAtMost}
 use Rattle.crn_net.specs.Totals.{made_by}
+use Rattle.crn_net.proofs.Shape.{if_same, if_other}
 
 -- different numbers have different images
 abbrev pub IsInjective : (ℕ → ℕ) → Type 0
@@ -160,22 +161,14 @@ max_law m p q y z =
     let minus : made_by max_table m 7 ≡ min_ℚ (m 1 +ℚ m 2) (m 3 +ℚ m 0) = simp (made_rules, p, q, z) in
     ap₂ (λ x w. x -ℚ w) plus minus ∙ most_of_sums _ _ _ _
 
--- a species that is not the one asked for counts 0
-pub other_test : (a b k : ℕ) → a ≢ b → (if a == b then k else 0) ≡ 0
-other_test a b k e = grind (arith, nat_tests)
-
--- and the one asked for counts k
-pub own_test : (a b k : ℕ) → a ≡ b → (if a == b then k else 0) ≡ k
-own_test a b k e = grind (arith, nat_tests)
-
 -- one reaction from a into y
 pub moved_there : (m : ℕ → ℚ) (p q a y : ℕ) → made_by (reaction (part q a ∷ []) (part p y ∷ []) ∷ []) m y ≡ m y +ℚ whole (pos p) *ℚ ((m a) /ℚ whole (pos q))
-moved_there m p q a y = ap (λ k. m y +ℚ whole (pos k) *ℚ ((m a) /ℚ whole (pos q))) (ap (λ k. k + 0) (own_test y y p refl) ∙ add-zero p)
+moved_there m p q a y = ap (λ k. m y +ℚ whole (pos k) *ℚ ((m a) /ℚ whole (pos q))) (ap (λ k. k + 0) (if_same y y p refl) ∙ add-zero p)
 
 -- another species than y keeps what it has
 pub moved_else : (m : ℕ → ℚ) (p q a y s : ℕ) → y ≢ s → made_by (reaction (part q a ∷ []) (part p y ∷ []) ∷ []) m s ≡ m s
 moved_else m p q a y s h =
-    ap (λ k. m s +ℚ whole (pos k) *ℚ ((m a) /ℚ whole (pos q))) (ap (λ k. k + 0) (other_test y s p h) ∙ add-zero 0) ∙ ap (λ x. m s +ℚ x) (zero-*ℚ _) ∙ +ℚ-zero _
+    ap (λ k. m s +ℚ whole (pos k) *ℚ ((m a) /ℚ whole (pos q))) (ap (λ k. k + 0) (if_other y s p h) ∙ add-zero 0) ∙ ap (λ x. m s +ℚ x) (zero-*ℚ _) ∙ +ℚ-zero _
 
 -- what is neither y nor y' stays
 pub transfer_else : (f : Factor) (a a' y y' : ℕ) (m : ℕ → ℚ) (s : ℕ) → y ≢ s → y' ≢ s → made_by (transfer f a a' y y') m s ≡ m s

@@ -1,15 +1,16 @@
 -- What the calls of a builder of single rails promise, from the laws of their tables.
 use Rattle.std.specs.List.{All}
 use Rattle.std.proofs.lemmas.List.Elements.{All-nil, All-cons}
-use Rattle.std.proofs.Common.{◌≡◌, ◌≢◌, ℕ, zero, suc, min, max, map, ◌+◌, ◌-◌, ◌<◌, ◌≤◌, Bool, true, false, List, [], ◌∷◌, ◌++◌, length, get_or, drop, drop-cons, refl, sym, ◌∙◌, ap, ap₂, subst, ◌⊎◌, ⊎_elim, arith, append_assoc, add-one}
+use Rattle.std.proofs.Common.{◌≡◌, ◌≢◌, ℕ, zero, suc, min, max, map, ◌+◌, ◌-◌, ◌<◌, ◌≤◌, Bool, true, false, List, [], ◌∷◌, ◌++◌, length, get_or, refl, sym, ◌∙◌, ap, ap₂, subst, ◌⊎◌, ⊎_elim, arith, append_assoc}
 use Rattle.std.specs.Prelude.{pos, ◌<ℤ◌}
 use Rattle.std.proofs.lemmas.Int.{ints}
 use Rattle.crn_fraction.proofs.Linear.{min_ℚ_comm}
-use Rattle.crn_fraction.specs.Gcd.{gcd}
-use Rattle.crn_fraction.specs.Rational.{ℚ, 0ℚ, ratio, ◌+ℚ◌, ◌*ℚ◌, ◌<ℚ◌, min_ℚ}
+use Rattle.crn_fraction.specs.Rational.{ℚ, 0ℚ, ◌+ℚ◌, ◌*ℚ◌, ◌<ℚ◌, min_ℚ}
+use Rattle.crn_fraction.proofs.Products.{positive_of_num}
 use Rattle.crn_net.specs.Network.{Reaction, IsApart, amount}
 use Rattle.crn_net.specs.Totals.{made_in}
 use Rattle.crn_net.specs.declared.Rails.TheVariants.{Direct}
+use Rattle.crn_net.specs.Reactions.{AreAtMost}
 use Rattle.crn_gates.proofs.BuildingLaws.{leaf_one_stamps, min_one_stamps}
 use Rattle.crn_gates.proofs.Chain.{made_before}
 use Rattle.crn_gates.proofs.Factors.{factor_upward, times_factor}
@@ -25,15 +26,10 @@ use Rattle.crn_gates.specs.Building.{IsSound, IsFree, AllFree, StampsOne}
 use Rattle.crn_gates.specs.Calls.{AreAbove, Moves, IsMade}
 use Rattle.crn_gates.specs.Drafts.{Draft, begun, width_before}
 use Rattle.crn_gates.specs.FanOut.{fanned}
-use Rattle.crn_gates.specs.Gates.{Built, Factor, Zero, Up, Down, factor_of, stamped, AreAtMost, slot_species, renamed, transfer_one, leaf_one_from, leaf_one_table, min_one_table, ones_at, IsUpward, AreUpward}
+use Rattle.crn_gates.specs.Gates.{Built, Factor, Zero, Up, Down, factor_of, stamped, slot_species, renamed, transfer_one, leaf_one_from, leaf_one_table, min_one_table, ones_at, IsUpward, AreUpward}
 use Rattle.crn_gates.specs.Singles.{rails_of_singles, factors_of_singles, value_of_singles, reactions_of_singles, rails_after, ascending}
 
 -- ---- positive factors
-
--- the numerator of a positive number is positive
-pub positive_numerator : (q : ℚ) → 0ℚ <ℚ q → pos 0 <ℤ q.num
-unfolding ratio gcd
-positive_numerator q h = omega (arith, ints, h.lt)
 
 -- and its factor is upward
 positive_upward : (q : ℚ) → 0ℚ <ℚ q → IsUpward (factor_of q)
@@ -272,30 +268,14 @@ rails_more e k old new all l h now =
     ∙ ap (λ v. old ++ (v ∷ rails_after v (k - (e + 1)))) r
     ∙ ap (λ v. old ++ rails_after e v) j ∙ now
 
--- one more term
-pub singles_more : (y : ℕ) (ts : List (ℚ × ℕ)) (i : ℕ) (t : ℚ × ℕ) (before now all : List Reaction) → i < length ts → t ≡ get_or ts i t →
-    before ++ reactions_of_singles y (drop i ts) ≡ all → now ≡ before ++ transfer_one (factor_of t.0) t.1 y → now ++ reactions_of_singles y (drop (i + 1) ts) ≡ all
-singles_more y ts i t before now all l is h next =
-    ap (λ v. v ++ reactions_of_singles y (drop (i + 1) ts)) next
-    ∙ append_assoc before (transfer_one (factor_of t.0) t.1 y) _
-    ∙ ap (λ v. before ++ reactions_of_singles y v) (sym first) ∙ h
-  where
-    first : drop i ts ≡ t ∷ drop (i + 1) ts
-    first = rw add-one (drop-cons ts i t l ∙ ap (λ v. v ∷ drop (suc i) ts) (sym is))
-
 -- ---- calls in turn
-
--- a number with a positive numerator is positive
-positive_number : (q : ℚ) → pos 0 <ℤ q.num → 0ℚ <ℚ q
-unfolding ratio gcd
-positive_number q h = record { lt = omega (arith, ints, h) }
 
 -- terms of positive factors
 pub one_positive : (ts : List (ℚ × ℕ)) (t : ℚ × ℕ) → ts ≡ t ∷ [] → pos 0 <ℤ t.0.num → All (λ u. 0ℚ <ℚ u.0) ts
-one_positive ts t e h = subst (All (λ u. 0ℚ <ℚ u.0)) (sym e) (All-cons (λ (u : ℚ × ℕ). 0ℚ <ℚ u.0) t [] (positive_number t.0 h) (All-nil (λ (u : ℚ × ℕ). 0ℚ <ℚ u.0)))
+one_positive ts t e h = subst (All (λ u. 0ℚ <ℚ u.0)) (sym e) (All-cons (λ (u : ℚ × ℕ). 0ℚ <ℚ u.0) t [] (positive_of_num t.0 h) (All-nil (λ (u : ℚ × ℕ). 0ℚ <ℚ u.0)))
 
 pub two_positive : (ts : List (ℚ × ℕ)) (t u : ℚ × ℕ) → ts ≡ t ∷ u ∷ [] → pos 0 <ℤ t.0.num → pos 0 <ℤ u.0.num → All (λ v. 0ℚ <ℚ v.0) ts
-two_positive ts t u e h k = subst (All (λ v. 0ℚ <ℚ v.0)) (sym e) (All-cons (λ (v : ℚ × ℕ). 0ℚ <ℚ v.0) t (u ∷ []) (positive_number t.0 h) (one_positive (u ∷ []) u refl k))
+two_positive ts t u e h k = subst (All (λ v. 0ℚ <ℚ v.0)) (sym e) (All-cons (λ (v : ℚ × ℕ). 0ℚ <ℚ v.0) t (u ∷ []) (positive_of_num t.0 h) (one_positive (u ∷ []) u refl k))
 
 -- what two calls made one after another is free, where the second took rails that were there before the first
 pub both_rails_free : (b b' b'' : Built) (xs ys : List ℕ) (x y : ℕ) → Moves b b' xs (x ∷ []) → Moves b' b'' ys (y ∷ []) → AreAtMost b.species ys → AllFree b'' (y ∷ x ∷ [])

@@ -3,17 +3,18 @@ use Rattle.std.proofs.Common.{◌≡◌, ◌≢◌, ℕ, zero, suc, ◌+◌, ◌
 use Rattle.std.specs.Prelude.{pos}
 use Rattle.crn_fraction.proofs.Ring.{+ℚ-zero, zero-*ℚ}
 use Rattle.crn_fraction.specs.Rational.{ℚ, ◌+ℚ◌, ◌*ℚ◌, whole}
-use Rattle.crn_gates.proofs.GateLaws.{other_test, slot_apart, slots_injective, FeedsForward-renamed, FeedsForward-append, made_by-renamed}
-use Rattle.crn_gates.specs.Gates.{slot_species, renamed_parts, renamed, AreAtMost, Built, stamped}
+use Rattle.crn_gates.proofs.GateLaws.{slot_apart, slots_injective, FeedsForward-renamed, FeedsForward-append, made_by-renamed}
+use Rattle.crn_gates.specs.Gates.{slot_species, renamed_parts, renamed, Built, stamped}
 use Rattle.crn_net.proofs.Made.{made_by-append}
 use Rattle.crn_net.specs.Network.{Part, Reaction, count_of, greatest, IsApart, AreDifferent}
-use Rattle.crn_net.specs.Reactions.{given_all, Each, EachTaken, EachGiven, IsLeftAlone, FeedsForward}
+use Rattle.crn_net.specs.Reactions.{given_all, Each, EachTaken, EachGiven, IsLeftAlone, FeedsForward, AreAtMost}
 use Rattle.crn_net.specs.Totals.{made_by}
+use Rattle.crn_net.proofs.Shape.{if_other}
 
 -- a species that is no slot's
 count_of_apart : (f : ℕ → ℕ) (s : ℕ) → ((i : ℕ) → f i ≢ s) → (ps : List Part) → count_of (renamed_parts f ps) s ≡ 0
 count_of_apart f s h [] = refl
-count_of_apart f s h (p ∷ ps) = ap₂ (λ x y. x + y) (other_test (f p.species) s p.count (h p.species)) (count_of_apart f s h ps)
+count_of_apart f s h (p ∷ ps) = ap₂ (λ x y. x + y) (if_other (f p.species) s p.count (h p.species)) (count_of_apart f s h ps)
 
 -- a stamped table leaves alone what is no slot's species
 pub left_alone : (f : ℕ → ℕ) (s : ℕ) → ((i : ℕ) → f i ≢ s) → (rs : List Reaction) → IsLeftAlone (renamed f rs) s
@@ -33,7 +34,7 @@ count_of_new : (xs : List ℕ) (n s : ℕ) → s ≤ n → (ps : List Part) → 
 count_of_new xs n s l [] h = refl
 count_of_new xs n s l (p ∷ ps) h =
     let new : n < slot_species xs n p.species = slot_new xs n p.species h.0 in
-    ap₂ (λ x y. x + y) (other_test (slot_species xs n p.species) s p.count (omega arith)) (count_of_new xs n s l ps h.1)
+    ap₂ (λ x y. x + y) (if_other (slot_species xs n p.species) s p.count (omega arith)) (count_of_new xs n s l ps h.1)
 
 -- a table that gives new slots gives none of the species that are there
 pub given_new : (xs : List ℕ) (n s : ℕ) → s ≤ n → (t : List Reaction) → EachGiven (λ i. length xs ≤ i) t → given_all (renamed (slot_species xs n) t) s ≡ 0

@@ -109,6 +109,7 @@ pub enum BuildError {
     /// The network would have more than 65,536 species.
     #[error("more than 65536 species")]
     TooLarge,
+    /// Memory ran out.
     #[error("out of memory")]
     Memory,
 }
@@ -166,7 +167,7 @@ impl Builder {
             rails,
             inputs,
             context,
-            species: first_species(rails, variables, context),
+            species: width_before(rails, variables, context),
             reactions: Vec::new(alloc),
         })
     }
@@ -497,7 +498,8 @@ impl Builder {
             reactions,
         } = self;
         let context = if context {
-            Some(first_species(rails, inputs.len(), true))
+            // The context is the last of these.
+            Some(width_before(rails, inputs.len(), true))
         } else {
             None
         };
@@ -595,7 +597,7 @@ fn inputs_of(alloc: Global, rails: Rails, variables: usize) -> Result<Vec<Ends>,
 }
 
 /// How many species the inputs of so many variables have, with the context.
-fn first_species(rails: Rails, variables: usize, context: bool) -> u32
+fn width_before(rails: Rails, variables: usize, context: bool) -> u32
     requires { variables ≤ 8 }
     ensures { result ≡ width_before rails variables context }
 {

@@ -1,9 +1,8 @@
 -- A text of a part and of what follows it is a part, and then a text of what follows it.
-use Rattle.std.proofs.Common.{◌≡◌, ℕ, ◌≤◌, ◌<◌, inl, inr, ⊎_elim, Bool, List, [], ◌∷◌, ◌++◌, length, Option, Some, None, refl, sym, ◌∙◌, ap, subst, arith, append_assoc, append-nil}
-use Rattle.std.specs.Option.{option_and_then, option_map_or}
-use Rattle.crn_token.proofs.Options.{some_alike}
+use Rattle.std.proofs.Common.{◌≡◌, ℕ, Bool, List, [], ◌∷◌, ◌++◌, Option, Some, None, refl, sym, ◌∙◌, ap, subst, append_assoc, append-nil}
+use Rattle.std.specs.Option.{option_map_or}
 use Rattle.crn_grammar.specs.Table.{Table, Answer, Read, Malformed, Limited, after, IsText, PassesNone, answer}
-use Rattle.crn_grammar.specs.Part.{Either, Part, PartAnswer, Ends, Wrong, Past, IsPart, part_answer}
+use Rattle.crn_grammar.specs.Part.{Either, PartAnswer, Ends, Wrong, Past, IsPart, part_answer}
 use Rattle.crn_grammar.specs.Followed.{Following, followed_table, answer_map}
 use Rattle.crn_grammar.proofs.TableLaws.{none_past, none_past_more, after_more, read_is}
 use Rattle.crn_grammar.proofs.RightParts.{part_found, part_is}

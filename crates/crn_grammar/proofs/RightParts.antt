@@ -3,16 +3,16 @@ use Rattle.std.proofs.Common.{◌≡◌, ℕ, ◌+◌, inl, inr, Bool, true, fal
 use Rattle.std.proofs.lemmas.Bool.{cases_Bool, MatchBool-at_true, MatchBool-at_false}
 use Rattle.std.specs.Bool.{MatchBool}
 use Rattle.std.specs.Option.{option_and_then, option_map_or}
+use Rattle.std.proofs.lemmas.Option.{same_Some}
 use Rattle.crn_grammar.specs.Table.{Table, IsTooShort, IsFirstPast, after, IsText, Begins, PassesNone, CanEnd}
 use Rattle.crn_grammar.specs.Part.{PartAnswer, Ends, Wrong, Past, part_end, part_answer, AllGoOn, Leaves, IsPart, IsFirstWrongInPart, IsPartAnswer}
-use Rattle.crn_token.proofs.Options.{some_alike}
 use Rattle.crn_grammar.proofs.TableLaws.{none_some, after_more, begins_here, wrong_here, none_past, none_past_more, leads, begun}
 
 -- ---- lines that go on
 module _ {S L F W : Type 0} (table : Table S L F W) (goes_on : S → L → Bool) where
   -- one line more goes on
   all_more : (lines : List L) (line : L) (s t : S) → AllGoOn table goes_on s lines → after table s lines ≡ Some t → goes_on t line ≡ true → AllGoOn table goes_on s (lines ++ line ∷ [])
-  all_more [] line s t goes there on = (subst (λ u. goes_on u line ≡ true) (sym (some_alike s t there)) on, λ u is. tt)
+  all_more [] line s t goes there on = (subst (λ u. goes_on u line ≡ true) (sym (same_Some s t there)) on, λ u is. tt)
   all_more (x ∷ xs) line s t goes there on =
       (goes.0, λ u is. all_more xs line u t (goes.1 u is) (sym (ap (option_and_then (λ v. after table v xs)) is) ∙ there) on)
 
@@ -22,7 +22,7 @@ module _ {S L F W : Type 0} (table : Table S L F W) (goes_on : S → L → Bool)
   all_fewer (x ∷ xs) line s goes = (goes.0, λ u is. all_fewer xs line u (goes.1 u is))
 
   all_last : (lines : List L) (line : L) (s t : S) → AllGoOn table goes_on s (lines ++ line ∷ []) → after table s lines ≡ Some t → goes_on t line ≡ true
-  all_last [] line s t goes there = subst (λ u. goes_on u line ≡ true) (some_alike s t there) goes.0
+  all_last [] line s t goes there = subst (λ u. goes_on u line ≡ true) (same_Some s t there) goes.0
   all_last (x ∷ xs) line s t goes there = go (table.next s x) refl there (λ u is here. all_last xs line u t (goes.1 u is) here)
     where
       go : (o : Option S) → table.next s x ≡ o → option_and_then (λ u. after table u xs) o ≡ Some t → ((u : S) → table.next s x ≡ Some u → after table u xs ≡ Some t → goes_on t line ≡ true) → goes_on t line ≡ true
@@ -31,7 +31,7 @@ module _ {S L F W : Type 0} (table : Table S L F W) (goes_on : S → L → Bool)
 
   no_text : (before : List L) (s : S) → after table table.start before ≡ Some s → table.whole s ≡ None → (f : F) → IsText table before f → ⊥
   no_text before s here none f (t, there, whole) =
-      let same : s ≡ t = some_alike s t (sym here ∙ there) in
+      let same : s ≡ t = same_Some s t (sym here ∙ there) in
       let wrong = sym none ∙ ap table.whole same ∙ whole in
       cc
 
@@ -111,7 +111,7 @@ module _ {S L F W : Type 0} (table : Table S L F W) (goes_on : S → L → Bool)
 
       -- at the place to which they lead
       at_place : (P : S → Type 0) → P s → (t : S) → after table table.start before ≡ Some t → P t
-      at_place P p t is = subst P (some_alike s t (sym led.here ∙ is)) p
+      at_place P p t is = subst P (same_Some s t (sym led.here ∙ is)) p
 
       wrong_line : fails before line (goes_on s line) → right lines (Wrong (number line))
       wrong_line wrong = inl (
@@ -196,7 +196,7 @@ module _ {S L F W : Type 0} (table : Table S L F W) (goes_on : S → L → Bool)
             lines_are = parts;
             text = (s, led.here, e ∙ ap (λ h. Some h) value);
             goes = led.goes;
-            leaves = λ t there. subst (λ u. goes_on u line ≡ false) (some_alike s t (sym led.here ∙ there)) off;
+            leaves = λ t there. subst (λ u. goes_on u line ≡ false) (same_Some s t (sym led.here ∙ there)) off;
             passes_none = led.low;
           })
 
@@ -214,7 +214,7 @@ module _ {S L F W : Type 0} (table : Table S L F W) (goes_on : S → L → Bool)
   -- allowed lines that go on and pass no limit lead the answer on
   along : (before lines rest : List L) (s t : S) → PassesNone table (before ++ lines) → after table table.start before ≡ Some s → after table s lines ≡ Some t → AllGoOn table goes_on s lines
       → told s (lines ++ rest) ≡ told t rest
-  along before [] rest s t low here there goes = ap (λ (u : S). told u rest) (some_alike s t there)
+  along before [] rest s t low here there goes = ap (λ (u : S). told u rest) (same_Some s t there)
   along before (line ∷ lines) rest s t low here there goes =
       goes_is s line (lines ++ rest) goes.0
       ∙ go (table.next s line) refl (λ u e here' there'. along (before ++ line ∷ []) lines rest u t (subst (PassesNone table) (sym (append_assoc before (line ∷ []) lines)) low) here' there' (goes.1 u e))
@@ -281,7 +281,7 @@ module _ {S L F W : Type 0} (table : Table S L F W) (goes_on : S → L → Bool)
       led_on : (t s : S) → after table t (line ∷ []) ≡ Some s → table.limit s ≡ Some what → (o : Option S) → table.next t line ≡ o → onward rest (number line) (table.next t line) ≡ Past what
       led_on t s there past None e = absurd (none_some table s (ap (option_and_then (λ u. Some u)) (sym e) ∙ there))
       led_on t s there past (Some u) e =
-          let same : u ≡ s = some_alike u s (ap (option_and_then (λ v. Some v)) (sym e) ∙ there) in
+          let same : u ≡ s = same_Some u s (ap (option_and_then (λ v. Some v)) (sym e) ∙ there) in
           rw (e, ap table.limit same ∙ past) refl
 
   pub right_part_is : CanEnd table → (lines : List L) (a : PartAnswer L F W) → right lines a → told table.start lines ≡ a

@@ -3,7 +3,7 @@ use Rattle.std.proofs.Common.{◌≡◌, ℕ, ◌+◌, ◌≤◌, inl, inr, List
 use Rattle.std.proofs.lemmas.Bool.{cases_lt}
 use Rattle.std.proofs.lemmas.List.{take-append-le}
 use Rattle.std.specs.Option.{option_and_then, option_map_or}
-use Rattle.crn_token.proofs.Options.{some_alike}
+use Rattle.std.proofs.lemmas.Option.{same_Some}
 use Rattle.crn_grammar.specs.Table.{Table, Answer, IsFirstWrong, IsTooShort, IsFirstPast, after, IsText, Begins, PassesNone, Read, Malformed, Limited, IsAnswer, CanEnd, answer}
 
 module _ {S L F W : Type 0} (table : Table S L F W) where
@@ -49,7 +49,7 @@ module _ {S L F W : Type 0} (table : Table S L F W) where
       ⊎_elim
       (λ less. let less' : n ≤ length lines = omega arith in before n s some less' (sym (ap (after table table.start) (take-append-le n lines (line ∷ []) less')) ∙ here))
       (λ more. let all : take n (lines ++ line ∷ []) ≡ lines ++ line ∷ [] = take_all n (lines ++ line ∷ []) (omega (arith, length-append lines (line ∷ []))) in
-      let same : t ≡ s = some_alike t s (sym there ∙ ap (after table table.start) (sym all) ∙ here) in
+      let same : t ≡ s = same_Some t s (sym there ∙ ap (after table table.start) (sym all) ∙ here) in
       ap table.limit (sym same) ∙ low)
       (cases_lt n (length lines + 1))
 
@@ -69,7 +69,7 @@ module _ {S L F W : Type 0} (table : Table S L F W) where
       go None e = rw e (inr (
         record {
           begins = subst (Begins table) (sym all) (begins_here can_end before s here);
-          none = λ f (t, there, whole). let same : s ≡ t = some_alike s t (sym here ∙ ap (after table table.start) (sym all) ∙ there) in let wrong = sym e ∙ ap table.whole same ∙ whole in cc;
+          none = λ f (t, there, whole). let same : s ≡ t = same_Some s t (sym here ∙ ap (after table table.start) (sym all) ∙ there) in let wrong = sym e ∙ ap table.whole same ∙ whole in cc;
           passes_none = subst (PassesNone table) (sym all) low;
         },
         refl,
@@ -118,7 +118,7 @@ module _ {S L F W : Type 0} (table : Table S L F W) where
   -- allowed lines that pass no limit lead the answer on
   along : (number : L → ℕ) (end : ℕ) (before lines rest : List L) (s t : S) → PassesNone table (before ++ lines) → after table table.start before ≡ Some s → after table s lines ≡ Some t
       → answer table number end s (lines ++ rest) ≡ answer table number end t rest
-  along number end before [] rest s t low here there = ap (λ (u : S). answer table number end u rest) (some_alike s t there)
+  along number end before [] rest s t low here there = ap (λ (u : S). answer table number end u rest) (same_Some s t there)
   along number end before (line ∷ lines) rest s t low here there =
       go (table.next s line) refl (λ u here' there'. along number end (before ++ line ∷ []) lines rest u t (subst (PassesNone table) (sym (append_assoc before (line ∷ []) lines)) low) here' there')
     where
@@ -188,7 +188,7 @@ module _ {S L F W : Type 0} (table : Table S L F W) where
           → option_map_or (λ u. option_map_or (λ what. Limited what) (table.limit u) (answer table number end u rest)) (table.next t line) (Malformed (number line)) ≡ Limited what
       goes t s there past None e = absurd (none_some s (ap (option_and_then (λ u. Some u)) (sym e) ∙ there))
       goes t s there past (Some u) e =
-          let same : u ≡ s = some_alike u s (ap (option_and_then (λ v. Some v)) (sym e) ∙ there) in
+          let same : u ≡ s = same_Some u s (ap (option_and_then (λ v. Some v)) (sym e) ∙ there) in
           rw (e, ap table.limit same ∙ past) refl
 
   -- there is one right answer
@@ -203,7 +203,7 @@ module _ {S L F W : Type 0} (table : Table S L F W) where
 
   -- where what is kept at each place lets it end, each place that lines lead to can end
   keeps : (Fine : S → Type 0) → ((s : S) (line : L) (t : S) → Fine s → table.next s line ≡ Some t → Fine t) → (lines : List L) (s t : S) → Fine s → after table s lines ≡ Some t → Fine t
-  keeps Fine kept [] s t fine there = subst Fine (some_alike s t there) fine
+  keeps Fine kept [] s t fine there = subst Fine (same_Some s t there) fine
   keeps Fine kept (line ∷ lines) s t fine there = go (table.next s line) refl (λ u fine_u there_u. keeps Fine kept lines u t fine_u there_u)
     where
       go : (o : Option S) → table.next s line ≡ o → ((u : S) → Fine u → after table u lines ≡ Some t → Fine t) → Fine t
@@ -230,7 +230,7 @@ module _ {S L F W : Type 0} (table : Table S L F W) where
 
   kept_along : (Good : L → Type 0) (Kept : S → Type 0) → KeepsWhere Good Kept → (before lines : List L) (s t : S) → EachLine Good lines → PassesNone table (before ++ lines)
       → after table table.start before ≡ Some s → Kept s → after table s lines ≡ Some t → Kept t
-  kept_along Good Kept keeps before [] s t each low here kept there = subst Kept (some_alike s t there) kept
+  kept_along Good Kept keeps before [] s t each low here kept there = subst Kept (same_Some s t there) kept
   kept_along Good Kept keeps before (line ∷ lines) s t each low here kept there =
       go (table.next s line) refl there (λ u here' kept' there'. kept_along Good Kept keeps (before ++ line ∷ []) lines u t each.1 (subst (PassesNone table) (sym (append_assoc before (line ∷ []) lines)) low) here' kept' there')
     where

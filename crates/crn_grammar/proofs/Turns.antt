@@ -55,6 +55,11 @@ pub passed_on : {X Y : Type 0} (view : X → Y) (r : Result X TextError) (e : Te
 passed_on view (Ok x) e a is refuses = absurd is
 passed_on view (Err f) e a is refuses = subst (λ g. Refuses g a) (sym is) refuses
 
+pub part_passed_on : {L X Y : Type 0} (view : X → Y) (lines : List L) (r : Result (X × ℕ) TextError) (e : TextError) (part : PartAnswer L Y (Counted × ℕ)) → IsErrAnd r (λ f. f ≡ e) → RefusesPart e part
+    → GivesPart view lines r part
+part_passed_on view lines (Ok x) e part is refuses = absurd is
+part_passed_on view lines (Err f) e part is refuses = subst (λ g. RefusesPart g part) (sym is) refuses
+
 -- ---- a call gives what is right where it gives the answer
 pub right_given : {X Y : Type 0} (view : X → Y) (Right : Answer Y (Counted × ℕ) → Type 0) (r : Result X TextError) (a : Answer Y (Counted × ℕ)) → Gives view r a → Right a → IsRight view r Right
 right_given view Right (Ok x) a gives is = subst Right gives is

@@ -16,6 +16,7 @@ pub enum TextError {
     /// The first line that passes a limit.
     #[error("limit {what:?} {count}")]
     Limit { what: Counted, count: u64 },
+    /// Memory ran out.
     #[error("out of memory")]
     Memory,
 }

@@ -96,6 +96,7 @@ impl Sink for MemSink {
 
     ghost faults = { λ s. s.faults };
 
+    // Where it is full, each further call fails.
     ghost just_failed = { λ s. WasListed s.fails s.calls ⊎ (length s.written ≡ s.capacity) };
 
     fn write(&mut self, piece: &[u8]) -> Result<usize, Failed>

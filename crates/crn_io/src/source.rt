@@ -28,13 +28,17 @@ pub trait Source {
     /// That the last call failed, where the source tells it.
     ghost just_failed: { Self → Type 0 } = { λ _. ⊤ };
 
+    /// How many calls there were, where the source tells it.
+    ghost calls: { Self → ℕ } = { λ _. 0 };
+
     /// Takes the next bytes into the front of `buf`, and says how many. `Ok(0)` means the end. A call that fails takes none.
     fn read(&mut self, buf: &mut [u8]) -> Result<usize, Failed>
         requires { 0 < length buf.old }
         ensures bound { ReadsAtMost result buf.new }
         ensures bytes { ReadConsumes (left self.old) (left self.new) result buf.new }
         ensures cause { HasCause (faults self.old) (faults self.new) result }
-        ensures last { OnErr result (just_failed self.new) };
+        ensures last { OnErr result (just_failed self.new) }
+        ensures one { calls self.new ≤ calls self.old + 1 };
 }
 
 // Copies as many bytes as there is room for, and at most `most`.
@@ -147,12 +151,15 @@ impl Source for MemSource {
 
     ghost just_failed = { λ s. WasListed s.fails s.calls };
 
+    ghost calls = { λ s. s.calls };
+
     fn read(&mut self, buf: &mut [u8]) -> Result<usize, Failed>
         requires { 0 < length buf.old }
         ensures bound { ReadsAtMost result buf.new }
         ensures bytes { ReadConsumes (Some self.old.left) (Some self.new.left) result buf.new }
         ensures cause { HasCause self.old.faults self.new.faults result }
         ensures last { OnErr result (WasListed self.new.fails self.new.calls) }
+        ensures one { self.new.calls ≤ self.old.calls + 1 }
         ensures fails { OnErr result (IsListed self.old.fails self.old.calls) }
         ensures serves { OnOk result (¬ IsListed self.old.fails self.old.calls) }
         ensures count { IfOk result (λ n. n ≡ min (length self.old.left) (min self.old.step (length buf.old))) }
@@ -246,7 +253,8 @@ impl From<AllocError> for ReadAllError {
 // How many bytes one call asks for at most.
 const BLOCK: usize = 4096;
 
-/// All the bytes up to the end, where there are at most `limit`. It takes at most one byte more, and what it took before a refusal stays taken. A call that fails is the last.
+/// All the bytes up to the end, where there are at most `limit`. It takes at most one byte more, and what it took before a refusal stays taken. A call that fails is the last,
+/// and so is the one that finds the end: each before it took a byte at least.
 pub fn read_all<S: Source>(
     alloc: Global,
     source: &mut S,
@@ -255,6 +263,7 @@ pub fn read_all<S: Source>(
     requires { limit < usize.MAX }
     ensures ok { IfOk result (λ v. Consumes (S.left source.old) (S.left source.new) v.items) }
     ensures end { OnOk result (IsAtEnd (S.left source.new)) }
+    ensures calls { IfOk result (λ v. S.calls source.new ≤ S.calls source.old + vec_len v + 1) }
     ensures within { IfOk result (λ v. vec_len v ≤ limit) }
     ensures too_long { IsErrOf result ReadAllError.TooLong → ConsumesSome (S.left source.old) (S.left source.new) (λ n. n ≡ limit + 1) }
     ensures fault { IsErrOf result ReadAllError.Fault → S.faults source.new ≡ raised (S.faults source.old) }

@@ -1,6 +1,7 @@
 -- The jobs and run jobs of texts within the limits.
 use Rattle.std.proofs.Common.{◌≡◌, ℕ, zero, suc, ◌*◌, List, length, Option, Some, None, refl, sym, ◌∙◌, ap, subst, arith}
 use Rattle.std.specs.Option.{option_map_or}
+use Rattle.std.proofs.lemmas.Option.{same_Some}
 use Rattle.crn_token.specs.Plain.{PlainLine}
 use Rattle.crn_grammar.specs.Table.{IsText, PassesNone, Read, Limited}
 use Rattle.crn_token.specs.Words.{says, rest_of}
@@ -14,7 +15,6 @@ use Rattle.crn_net_text.specs.Grammar as networks
 use Rattle.crn_net_text.specs.Grammar.{network_table}
 use Rattle.crn_net_text.specs.Reading as network_text
 use Rattle.crn_net_text.proofs.Kept.{kept_judged as network_judged, kept_is_valid}
-use Rattle.crn_token.proofs.Options.{some_alike}
 use Rattle.crn_segments.specs.Steps.{AreSegments}
 use Rattle.crn_job.specs.Words.{first_word}
 use Rattle.crn_job.specs.Grammar.{PlainJob, Tail, TailValue, job_table, job_tail, job_with, tail_next, tail_limit, tail_whole, value_at, rails_of, amounts_of, amount_count}
@@ -40,7 +40,7 @@ tail_kept f = record { rails_are = refl; few = omega arith; inputs_are = omega a
 
 -- where it may end
 ended : (left : ℕ) (t : Tail) (v : TailValue) → t.left ≡ left → value_at left t ≡ Some v → (t.left ≡ 0) × (t.amounts ≡ v.amounts) × (t.segments ≡ v.segments)
-ended zero t v none is = (none, ap (λ (w : TailValue). w.amounts) (some_alike _ v is), ap (λ (w : TailValue). w.segments) (some_alike _ v is))
+ended zero t v none is = (none, ap (λ (w : TailValue). w.amounts) (same_Some _ v is), ap (λ (w : TailValue). w.segments) (same_Some _ v is))
 ended (suc n) t v some is = let wrong : ◌≡◌ {A = Option TailValue} None (Some v) = is in cc
 
 job_is : (f : PlainFunction) (t : Tail) (v : TailValue) → IsFitting f.variables f.kind → IsKept (rails_of f.kind) f.variables t → tail_whole t ≡ Some v → IsFittingJob (job_with f v)
@@ -71,7 +71,7 @@ network_keeps s line t kept is low =
 
 -- where a network part may end
 whole_valid : (s : networks.Place) (net : Network) → network_text.IsKept s → networks.whole s ≡ Some net → IsValid net
-whole_valid (networks.Listing zero on) net kept is = subst IsValid (some_alike on net is) (kept_is_valid on kept)
+whole_valid (networks.Listing zero on) net kept is = subst IsValid (same_Some on net is) (kept_is_valid on kept)
 whole_valid (networks.Listing (suc m) on) net kept is = let wrong : ◌≡◌ {A = Option Network} None (Some net) = is in cc
 whole_valid networks.Start net kept is = let wrong : ◌≡◌ {A = Option Network} None (Some net) = is in cc
 whole_valid (networks.Titled rails two) net kept is = let wrong : ◌≡◌ {A = Option Network} None (Some net) = is in cc
@@ -86,7 +86,7 @@ run_keeps net t line u kept is low =
 
 run_job_is : (net : Network) (t : RunTail) (v : RunValue) → IsValid net → IsRunKept net.species t → run_whole t ≡ Some v → IsFittingRunJob (run_with net v)
 run_job_is net t v valid kept is =
-    subst (λ w. IsFittingRunJob (run_with net w)) (some_alike _ v is)
+    subst (λ w. IsFittingRunJob (run_with net w)) (same_Some _ v is)
     (record {
       network = valid;
       state = record { long = length-state t.species t.amounts ∙ kept.species; not_negative = state_not_negative t.species t.amounts kept.not_negative };

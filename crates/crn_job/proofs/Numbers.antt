@@ -2,14 +2,15 @@
 use Rattle.std.proofs.Common.{◌≡◌, ℕ, suc, ◌<◌, List, [], ◌∷◌, length, drop, map, Option, Some, None, refl, sym, ◌∙◌, ap, subst, arith}
 use Rattle.std.proofs.lemmas.List.{drop-map}
 use Rattle.std.specs.Option.{option_map, option_and_then}
+use Rattle.std.proofs.lemmas.Option.{same_Some}
 use Rattle.crn_fraction.specs.Rational.{ℚ, 0ℚ, ◌≤ℚ◌}
 use Rattle.crn_token.specs.declared.Token.{Token}
 use Rattle.crn_token.specs.Plain.{Plain, plain_token}
 use Rattle.crn_form_text.specs.Grammar.{IsLongestNumber}
 use Rattle.crn_form_text.specs.Reading.{fraction_at}
 use Rattle.crn_form_text.proofs.Numbers.{number_found, IsNumberFound}
-use Rattle.crn_function_text.proofs.Spelled.{number_nonnegative}
-use Rattle.crn_token.proofs.Options.{some_alike, then_found}
+use Rattle.crn_form_text.proofs.Meanings.{number_nonnegative}
+use Rattle.crn_token.proofs.Options.{then_found}
 use Rattle.crn_job.specs.Grammar.{numbers_of, alone, number_of}
 
 -- what follows the first number
@@ -68,5 +69,5 @@ number_of_nonnegative ts q is =
     subst (λ r. 0ℚ ≤ℚ r) (last p.0 (drop p.1 ts) rest) (found_nonnegative ts p.0 p.1 here)
   where
     last : (p : ℚ) (us : List Plain) → alone p us ≡ Some q → p ≡ q
-    last p [] e = some_alike p q e
+    last p [] e = same_Some p q e
     last p (u ∷ us) e = let wrong : ◌≡◌ {A = Option ℚ} None (Some q) = e in cc

@@ -1,24 +1,26 @@
 -- One line more after the network part.
-use Rattle.std.proofs.Common.{◌≡◌, ℕ, ◌<◌, cond, List, [], ◌∷◌, length, drop, map, Option, Some, None, refl, sym, ◌∙◌, ap, ap₂, subst, arith}
+use Rattle.std.proofs.Common.{◌≡◌, ℕ, cond, List, [], ◌∷◌, length, drop, map, Option, Some, None, refl, sym, ◌∙◌, ap, ap₂, subst, arith}
 use Rattle.std.specs.Option.{option_map, option_map_or, option_and_then}
+use Rattle.std.specs.Prelude.{Result, Ok, Err, IsErrAnd}
 use Rattle.crn_fraction.specs.Rational.{ℚ, 0ℚ, ◌≤ℚ◌}
 use Rattle.crn_token.specs.declared.Counted.TheVariants as counted
 use Rattle.crn_token.specs.declared.Token.{Token}
 use Rattle.crn_token.specs.declared.Line.{Line}
 use Rattle.crn_token.specs.Plain.{Plain, plain_token, plain_line}
-use Rattle.crn_grammar.specs.Table.{Read, Limited}
+use Rattle.crn_grammar.specs.Table.{Read, Limited, Answer}
 use Rattle.crn_token.specs.Words.{rest_of}
 use Rattle.crn_net.specs.declared.Flow.{Flow}
 use Rattle.crn_net_text.specs.Grammar.{species_at}
 use Rattle.crn_token.proofs.Options.{then_found, map_found}
+use Rattle.crn_token.specs.declared.Counted.{Counted}
 use Rattle.crn_job.specs.declared.run_tail.RunTail.{RunTail as CodeTail}
 use Rattle.crn_job.specs.declared.words.Word.{Word}
 use Rattle.crn_job.specs.declared.words.Word.TheVariants as word
 use Rattle.crn_job.specs.Words.{first_word}
 use Rattle.crn_job.specs.Grammar.{most_segments, number_of, segments_with, segments_limit}
 use Rattle.crn_job.specs.RunGrammar.{Given, RunTail, RunValue, given, state_given, given_of, last_species, with_amount, with_segments, run_follow, run_next, run_limit}
-use Rattle.crn_grammar.specs.Reading.{judged}
-use Rattle.crn_job.specs.Reading.{Shows, IsRunKept}
+use Rattle.crn_grammar.specs.Reading.{judged, Refuses}
+use Rattle.crn_job.specs.Reading.{Shows, IsRunKept, Leads}
 use Rattle.crn_job.proofs.Numbers.{number_of_nonnegative}
 use Rattle.crn_job.proofs.Segments.{segments_are}
 use Rattle.crn_segments.specs.Steps.{AreSegments}
@@ -26,6 +28,7 @@ use Rattle.crn_grammar.specs.Followed.{answer_map}
 use Rattle.crn_job.proofs.Flows.{judged_segments}
 use Rattle.crn_grammar.proofs.LimitLaws.{not_passed}
 use Rattle.crn_grammar.proofs.Turns.{judged_read}
+use Rattle.crn_grammar.specs.declared.error.TextError.{TextError}
 use Rattle.crn_job.proofs.LineLaws.{word_is, rest_is}
 
 -- what is read of a line is what it says
@@ -38,11 +41,6 @@ run_line_next bytes line tokens rest t w tokens_are is rest_are =
 no_segments : (us : List (List Flow)) → length us ≡ 0 → us ≡ []
 no_segments [] none = refl
 no_segments (u ∷ us) none = absurd (omega arith)
-
--- an amount line after a segment line
-pub amount_late : (t : RunTail) (us : List (List Flow)) (ts : List Plain) → 0 < length us → run_follow t us word.Amount ts ≡ None
-amount_late t [] ts some = absurd (omega arith)
-amount_late t (u ∷ us) ts some = refl
 
 -- an amount line before the first segment line
 pub amount_first : (t : RunTail) (us : List (List Flow)) (ts : List Plain) → length us ≡ 0 → run_follow t us word.Amount ts ≡ option_map (with_amount t) (given_of (last_species t.amounts) t.species ts)
@@ -57,13 +55,6 @@ follow_segments t [] ts = refl
 follow_segments t (u ∷ us) ts = refl
 
 -- ---- other lines
-pub other_line : (t : RunTail) (us : List (List Flow)) (w : Word) (ts : List Plain) → (w ≡ word.Amount → ⊥) → (w ≡ word.Segment → ⊥) → run_follow t us w ts ≡ None
-other_line t [] word.Input ts amount segment = refl
-other_line t (u ∷ us) word.Input ts amount segment = refl
-other_line t us word.Amount ts amount segment = absurd (amount refl)
-other_line t us word.Segment ts amount segment = absurd (segment refl)
-other_line t [] word.Other ts amount segment = refl
-other_line t (u ∷ us) word.Other ts amount segment = refl
 
 -- ---- the tokens of an amount line
 pub given_is : (low n a : ℕ) (ts us : List Plain) (o : Option ℚ) → Some a ≡ species_at low n ts → o ≡ number_of us → us ≡ drop 2 ts → option_map (given a) o ≡ given_of low n ts
@@ -118,3 +109,8 @@ judged_follow_segments number t ts = ap (judged run_limit number) (follow_segmen
 -- what the code has is what its place says
 pub value_shown : (c : CodeTail) (t : RunTail) → Shows c t → ◌≡◌ {A = RunValue} (record { state = c.state; segments = c.segments.items }) (record { state = state_given t.species t.amounts; segments = t.segments })
 value_shown c t shows = ap₂ (λ (state : List ℚ) (us : List (List Flow)). let v : RunValue = record { state = state; segments = us } in v) shows.state shows.segments
+
+-- what is refused with an error of a call is refused so
+pub leads_nowhere : (r : Result CodeTail TextError) (e : TextError) (a : Answer RunTail (Counted × ℕ)) → IsErrAnd r (λ f. f ≡ e) → Refuses e a → Leads r a
+leads_nowhere (Ok c) e a is refuses = absurd is
+leads_nowhere (Err f) e a is refuses = subst (λ g. Refuses g a) (sym is) refuses

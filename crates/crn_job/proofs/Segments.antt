@@ -1,37 +1,30 @@
 -- The test of a segment, and the flows that are one.
-use Rattle.std.proofs.Common.{◌≡◌, ℕ, true, false, cond, ◌&&◌, List, [], ◌∷◌, ◌++◌, length, Some, None, refl, sym, ◌∙◌, ap₂, subst, ⊎_elim, arith, lt-ltb, ltb-true}
+use Rattle.std.proofs.Common.{◌≡◌, ℕ, true, false, cond, ◌&&◌, List, [], ◌∷◌, ◌++◌, length, Some, None, refl, ap₂, subst, arith, lt-ltb, ltb-true}
+use Rattle.std.proofs.lemmas.Bool.{and_parts}
 use Rattle.std.specs.Prelude.{nat_lt}
-use Rattle.crn_fraction.specs.Rational.{ℚ, 0ℚ, ◌<ℚ◌}
-use Rattle.crn_fraction.proofs.Linear.{not_<ℚ}
-use Rattle.crn_token.proofs.Printed.{and_first, and_second}
+use Rattle.std.proofs.lemmas.Option.{same_Some}
 use Rattle.crn_net.specs.declared.Flow.{Flow}
 use Rattle.crn_segments.specs.Flows.{AreAscending, IsSegment}
 use Rattle.crn_segments.specs.Signs.{is_positive_ℚ}
-use Rattle.crn_segments.proofs.SignLaws.{is_positive_ℚ_cases}
+use Rattle.crn_segments.proofs.SignLaws.{positive_is, is_positive}
 use Rattle.crn_segments.specs.Steps.{AreSegments}
 use Rattle.crn_segments.proofs.Runs.{segments_append}
 use Rattle.crn_token.specs.Plain.{Plain}
-use Rattle.crn_token.proofs.Options.{some_alike, then_found, map_found, if_found}
+use Rattle.crn_token.proofs.Options.{then_found, map_found, if_found}
 use Rattle.crn_job.specs.Grammar.{ascend, is_segment, flows_of, segment_of, segments_with}
-
-positive : (a : ℚ) → is_positive_ℚ a ≡ true → 0ℚ <ℚ a
-positive a is = ⊎_elim (λ yes_. yes_.1) (λ never. let wrong : false ≡ true = sym never.0 ∙ is in cc) (is_positive_ℚ_cases a)
-
-is_positive : (a : ℚ) → 0ℚ <ℚ a → is_positive_ℚ a ≡ true
-is_positive a above = ⊎_elim (λ yes_. yes_.0) (λ never. absurd (not_<ℚ a 0ℚ never.1 above)) (is_positive_ℚ_cases a)
 
 ascending : (low : ℕ) (fs : List Flow) → ascend low fs ≡ true → AreAscending low fs
 ascending low [] is = tt
 ascending low (f ∷ fs) is =
-    let rest = and_second (nat_lt low f.reaction) (is_positive_ℚ f.flux && ascend f.reaction fs) is in (
-      ltb-true low f.reaction (and_first (nat_lt low f.reaction) (is_positive_ℚ f.flux && ascend f.reaction fs) is),
-      positive f.flux (and_first (is_positive_ℚ f.flux) (ascend f.reaction fs) rest),
-      ascending f.reaction fs (and_second (is_positive_ℚ f.flux) (ascend f.reaction fs) rest),
+    let rest = (and_parts (nat_lt low f.reaction) (is_positive_ℚ f.flux && ascend f.reaction fs) is).1 in (
+      ltb-true low f.reaction (and_parts (nat_lt low f.reaction) (is_positive_ℚ f.flux && ascend f.reaction fs) is).0,
+      is_positive f.flux (and_parts (is_positive_ℚ f.flux) (ascend f.reaction fs) rest).0,
+      ascending f.reaction fs (and_parts (is_positive_ℚ f.flux) (ascend f.reaction fs) rest).1,
     )
 
 ascends : (low : ℕ) (fs : List Flow) → AreAscending low fs → ascend low fs ≡ true
 ascends low [] are = refl
-ascends low (f ∷ fs) are = ap₂ (λ a b. a && b) (lt-ltb low f.reaction are.0) (ap₂ (λ a b. a && b) (is_positive f.flux are.1) (ascends f.reaction fs are.2))
+ascends low (f ∷ fs) are = ap₂ (λ a b. a && b) (lt-ltb low f.reaction are.0) (ap₂ (λ a b. a && b) (positive_is f.flux are.1) (ascends f.reaction fs are.2))
 
 pub segment_is : (fs : List Flow) → is_segment fs ≡ true → IsSegment fs
 segment_is [] is = let wrong : false ≡ true = is in cc
@@ -47,7 +40,7 @@ pub segment_found_is : (ts : List Plain) (u : List Flow) → segment_of ts ≡ S
 segment_found_is ts u is =
     let (fs, here, rest) = then_found (λ fs. cond (is_segment fs) (Some fs) None) (flows_of (length ts) ts) u is in
     let (test, same) = if_found (is_segment fs) (Some fs) u rest in
-    subst IsSegment (some_alike fs u same) (segment_is fs test)
+    subst IsSegment (same_Some fs u same) (segment_is fs test)
 
 pub segments_are : (us vs : List (List Flow)) (ts : List Plain) → AreSegments us → segments_with us ts ≡ Some vs → AreSegments vs
 segments_are us vs ts all is =

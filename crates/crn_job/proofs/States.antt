@@ -1,12 +1,13 @@
 -- The state that given amounts make.
-use Rattle.std.proofs.Common.{◌≡◌, ◌≢◌, ◌==◌, ◌⊎◌, ℕ, zero, suc, ◌+◌, ◌-◌, ◌<◌, ◌≤◌, if◌then◌else◌, Bool, true, false, List, [], ◌∷◌, length, map, get_or, set, replicate, refl, sym, ◌∙◌, ap, subst, ⊎_elim, arith}
+use Rattle.std.proofs.Common.{◌≡◌, ◌≢◌, ◌==◌, ℕ, zero, suc, ◌+◌, ◌-◌, ◌<◌, ◌≤◌, List, [], ◌∷◌, length, map, get_or, set, replicate, refl, sym, ◌∙◌, ap, subst, ⊎_elim, arith}
 use Rattle.std.specs.List.{range_with_len}
 use Rattle.std.proofs.lemmas.List.{ext_get_or, length-set, get_or-set_same, get_or-set_other, get_or_past}
 use Rattle.std.proofs.lemmas.List.FromFn.{get_or-map-range_with_len, length-map-range_with_len}
+use Rattle.std.proofs.lemmas.Bool.{cases_eq, cases_lt}
 use Rattle.crn_fraction.specs.Rational.{ℚ, 0ℚ, ◌≤ℚ◌}
 use Rattle.crn_fraction.proofs.Order.{≤ℚ_refl}
 use Rattle.crn_net.specs.Network.{IsNotNegative}
-use Rattle.crn_net.proofs.Start.{pick_yes, pick_no}
+use Rattle.crn_net.proofs.Start.{pick_yes, pick_no, pick_nonnegative}
 use Rattle.crn_job.specs.RunGrammar.{Given, amount_given, state_given, given}
 use Rattle.crn_job.specs.Reading.{AreGivenNotNegative}
 
@@ -41,22 +42,14 @@ one_given n gs a q low high = ext_get_or 0ℚ (set (state_given n gs) (a - 1) q)
     there i within other =
         get_or-set_other (state_given n gs) (a - 1) i q 0ℚ other ∙ amount_at n gs i within ∙ sym (pick_no a (suc i) q (amount_given gs (suc i)) (λ e. other (omega arith)))
 
-    equal : (i k : ℕ) → (i ≡ k) ⊎ (i ≢ k)
-    equal i k = grind arith
-
     each : (i : ℕ) → i < length (set (state_given n gs) (a - 1) q) → get_or (set (state_given n gs) (a - 1) q) i 0ℚ ≡ get_or (state_given n (given a q ∷ gs)) i 0ℚ
     each i within =
         let below : i < n = omega (arith, long) in
-        ⊎_elim (λ e. here i below e) (λ other. there i below other) (equal i (a - 1)) ∙ sym (amount_at n (given a q ∷ gs) i below)
-
--- no amount is negative where none is given that is
-either : (b : Bool) (x y : ℚ) → 0ℚ ≤ℚ x → 0ℚ ≤ℚ y → 0ℚ ≤ℚ (if b then x else y)
-either true x y h k = h
-either false x y h k = k
+        ⊎_elim (λ e. here i below e) (λ other. there i below other) (cases_eq i (a - 1)) ∙ sym (amount_at n (given a q ∷ gs) i below)
 
 given_not_negative : (gs : List Given) (s : ℕ) → AreGivenNotNegative gs → 0ℚ ≤ℚ amount_given gs s
 given_not_negative [] s are = ≤ℚ_refl 0ℚ
-given_not_negative (g ∷ gs) s are = either (g.species == s) g.amount (amount_given gs s) are.0 (given_not_negative gs s are.1)
+given_not_negative (g ∷ gs) s are = pick_nonnegative (g.species == s) g.amount (amount_given gs s) are.0 (given_not_negative gs s are.1)
 
 pub state_not_negative : (n : ℕ) (gs : List Given) → AreGivenNotNegative gs → IsNotNegative (state_given n gs)
 state_not_negative n gs are zero = ≤ℚ_refl 0ℚ
@@ -64,7 +57,4 @@ state_not_negative n gs are (suc i) =
     ⊎_elim
     (λ low. subst (λ x. 0ℚ ≤ℚ x) (sym (amount_at n gs i low)) (given_not_negative gs (suc i) are))
     (λ high. subst (λ x. 0ℚ ≤ℚ x) (sym (get_or_past (state_given n gs) i 0ℚ (omega (arith, length-state n gs)))) (≤ℚ_refl 0ℚ))
-    (below i n)
-  where
-    below : (i n : ℕ) → (i < n) ⊎ (n ≤ i)
-    below i n = grind arith
+    (cases_lt i n)

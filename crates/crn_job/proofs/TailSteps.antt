@@ -1,6 +1,7 @@
 -- One line more after the function part, and the end of the text.
-use Rattle.std.proofs.Common.{◌≡◌, ℕ, zero, suc, ◌+◌, ◌*◌, ◌++◌, cond, List, [], ◌∷◌, length, drop, map, Option, Some, None, refl, ◌∙◌, ap, ap₂, subst, arith, length-append}
+use Rattle.std.proofs.Common.{◌≡◌, ℕ, zero, suc, ◌+◌, ◌*◌, cond, List, [], ◌∷◌, length, drop, map, Option, Some, None, refl, ◌∙◌, ap, ap₂, subst, arith, length-append}
 use Rattle.std.specs.Option.{option_map, option_and_then}
+use Rattle.std.proofs.lemmas.Option.{same_Some}
 use Rattle.crn_fraction.specs.Rational.{ℚ}
 use Rattle.crn_token.specs.declared.Counted.TheVariants as counted
 use Rattle.crn_token.specs.declared.Token.{Token}
@@ -13,13 +14,13 @@ use Rattle.crn_grammar.proofs.LimitLaws.{not_passed}
 use Rattle.crn_grammar.proofs.Turns.{judged_read}
 use Rattle.crn_net.specs.Network.{AreNotNegative}
 use Rattle.crn_net.specs.declared.Rails.{Rails}
+use Rattle.crn_net.proofs.Start.{AreNotNegative-append}
 use Rattle.crn_job.specs.declared.words.Word.{Word}
 use Rattle.crn_job.specs.declared.words.Word.TheVariants as word
 use Rattle.crn_job.specs.Words.{first_word}
 use Rattle.crn_job.specs.Grammar.{Tail, most_segments, amounts_of, numbers_of, segments_with, with_input, with_segments, tail_follow, tail_next, tail_limit}
 use Rattle.crn_grammar.specs.Reading.{judged}
 use Rattle.crn_job.specs.Reading.{IsKept}
-use Rattle.crn_token.proofs.Options.{some_alike}
 use Rattle.crn_job.proofs.Numbers.{found_nonnegative}
 use Rattle.crn_job.proofs.Segments.{segments_are}
 use Rattle.crn_job.proofs.LineLaws.{word_is, rest_is}
@@ -37,7 +38,7 @@ record AreNumbers (n : ℕ) (qs : List ℚ) : Type 0 where
   not_negative : AreNotNegative qs
 
 numbers_are : (n : ℕ) (ts : List Plain) (qs : List ℚ) → numbers_of n ts ≡ Some qs → AreNumbers n qs
-numbers_are zero [] qs is = subst (AreNumbers 0) (some_alike [] qs is) (record { long = refl; not_negative = tt })
+numbers_are zero [] qs is = subst (AreNumbers 0) (same_Some [] qs is) (record { long = refl; not_negative = tt })
 numbers_are zero (t ∷ ts) qs is = let wrong : ◌≡◌ {A = Option (List ℚ)} None (Some qs) = is in cc
 numbers_are (suc n) ts qs is = go (fraction_at ts) refl is (λ m rs there. numbers_are n (drop m ts) rs there)
   where
@@ -50,11 +51,7 @@ numbers_are (suc n) ts qs is = go (fraction_at ts) refl is (λ m rs there. numbe
         more None f found = let wrong : ◌≡◌ {A = Option (List ℚ)} None (Some qs) = found in cc
         more (Some rs) f found =
             let are = again m rs f in
-            subst (AreNumbers (suc n)) (some_alike (q ∷ rs) qs found) (record { long = omega (arith, are.long); not_negative = (found_nonnegative ts q m e, are.not_negative) })
-
-both_nonnegative : (xs ys : List ℚ) → AreNotNegative xs → AreNotNegative ys → AreNotNegative (xs ++ ys)
-both_nonnegative [] ys are more = more
-both_nonnegative (x ∷ xs) ys are more = (are.0, both_nonnegative xs ys are.1 more)
+            subst (AreNumbers (suc n)) (same_Some (q ∷ rs) qs found) (record { long = omega (arith, are.long); not_negative = (found_nonnegative ts q m e, are.not_negative) })
 
 abbrev KeptNext : Rails → ℕ → Option Tail → Type 0
 KeptNext rails inputs None = Unit {0}
@@ -74,7 +71,7 @@ kept_input rails inputs n t rest left kept =
       rails_are = kept.rails_are;
       few = kept.few;
       inputs_are = omega (arith, kept.inputs_are, long, one_less, length-append t.amounts qs);
-      not_negative = both_nonnegative t.amounts qs kept.not_negative are.not_negative;
+      not_negative = AreNotNegative-append t.amounts qs kept.not_negative are.not_negative;
       segments = kept.segments;
     })
 

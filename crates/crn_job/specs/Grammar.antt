@@ -66,7 +66,7 @@ is_segment (f ∷ fs) = ascend 0 (f ∷ fs)
 abbrev pub segment_of : List Plain → Option (List Flow)
 segment_of tokens = option_and_then (λ fs. if is_segment fs then Some fs else None) (flows_of (length tokens) tokens)
 
--- the number that is all the tokens
+-- the number, where the tokens are one number and nothing after it
 abbrev pub alone : ℚ → List Plain → Option ℚ
 alone q [] = Some q
 alone q (token ∷ tokens) = None

@@ -99,10 +99,7 @@ fn read_tail(
         let line = &lines.lines[index];
         let tokens = tokens_of(line);
         let word = first_word(bytes, tokens);
-        match tail.after(alloc, line.number, word, rest_of(tokens)) {
-            Ok(next) => tail = next,
-            Err(error) => return Err(error),
-        }
+        tail = tail.after(alloc, line.number, word, rest_of(tokens))?;
     }
     tail.value(lines.count + 1)
 }
@@ -232,10 +229,7 @@ fn read_run_tail(
         let line = &lines.lines[index];
         let tokens = tokens_of(line);
         let word = first_word(bytes, tokens);
-        match tail.after(alloc, bytes, line.number, word, rest_of(tokens)) {
-            Ok(next) => tail = next,
-            Err(error) => return Err(error),
-        }
+        tail = tail.after(alloc, bytes, line.number, word, rest_of(tokens))?;
     }
     Ok(tail.value())
 }

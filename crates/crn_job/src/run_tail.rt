@@ -112,10 +112,8 @@ impl RunTail {
         requires { length self.segments.items ≤ MOST_SEGMENTS }
         ensures { (t : run.RunTail) (bytes : List ℕ) → Shows self t → Leads result (judged run.run_limit line (run.run_follow t t.segments Word.Segment (map (plain_token bytes) rest.now))) }
     {
-        match push_segment(alloc, &mut self.segments, line, rest) {
-            Ok(()) => Ok(self),
-            Err(error) => Err(error),
-        }
+        push_segment(alloc, &mut self.segments, line, rest)?;
+        Ok(self)
     }
 
     /// The state and the segments. A text may end after each of these lines.

@@ -32,7 +32,7 @@ pub struct Tail {
 /// The greatest number of segments of a job.
 pub const MOST_SEGMENTS: usize = 10_000;
 
-/// The number that is all the tokens.
+/// The number, where the tokens are one number and nothing after it.
 pub fn one_number(tokens: &[Token]) -> Option<Frac>
     ensures value { (bytes : List ℕ) → result ≡ number_of (map (plain_token bytes) tokens.now) }
     ensures not_negative { IfSome result (λ q. 0ℚ ≤ℚ q) }
@@ -230,10 +230,8 @@ impl Tail {
         requires { length self.segments.items ≤ MOST_SEGMENTS }
         ensures { (bytes : List ℕ) → Gives tail_of result (judged grammar.tail_limit line (option_map (λ us. grammar.with_segments (tail_of self) us) (segments_with self.segments.items (map (plain_token bytes) rest.now)))) }
     {
-        match push_segment(alloc, &mut self.segments, line, rest) {
-            Ok(()) => Ok(self),
-            Err(error) => Err(error),
-        }
+        push_segment(alloc, &mut self.segments, line, rest)?;
+        Ok(self)
     }
 
     /// What was read, if the text may end here, before the line `end`.

@@ -12,10 +12,8 @@ fn malformed(line: usize) -> Result<usize, JobError> {
 
 // How many segments the job that was read has, or why none was.
 fn read(alloc: Global, text: &[u8]) -> Result<usize, JobError> {
-    match read_job(alloc, text) {
-        Ok(job) => Ok(job.segments.len()),
-        Err(error) => Err(error),
-    }
+    let job = read_job(alloc, text)?;
+    Ok(job.segments.len())
 }
 
 #[test]
@@ -164,10 +162,8 @@ const SPLIT: &[u8] =
 
 // How many segments the run job that was read has, or why none was.
 fn read_run(alloc: Global, text: &[u8]) -> Result<usize, JobError> {
-    match read_run_job(alloc, text) {
-        Ok(job) => Ok(job.segments.len()),
-        Err(error) => Err(error),
-    }
+    let job = read_run_job(alloc, text)?;
+    Ok(job.segments.len())
 }
 
 fn joined(alloc: Global, head: &[u8], tail: &[u8]) -> Result<Vec<u8>, AllocError> {

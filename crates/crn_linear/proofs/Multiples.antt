@@ -1,19 +1,20 @@
 -- The cleared row is a positive multiple of its form, and nothing but 1 divides all of its entries unless they are all 0.
 use Rattle.std.proofs.Common.{◌≡◌, ◌≢◌, inl, inr, ⊎_elim, ℕ, zero, suc, ◌*◌, ◌/◌, ◌<◌, ◌≤◌, List, [], ◌∷◌, length, map, refl, sym, ap, ap₂, ◌∙◌, subst, arith}
-use Rattle.std.specs.Prelude.{pos, ◌*ℤ◌, ◌<ℤ◌, unsigned_abs}
+use Rattle.std.specs.Prelude.{pos, ◌*ℤ◌, unsigned_abs}
 use Rattle.std.specs.List.{All}
 use Rattle.std.specs.Int.{◌∣◌}
 use Rattle.std.proofs.lemmas.Int.{ints, unsigned_abs-mul}
 use Rattle.std.proofs.lemmas.Nat.Gcd.{le_of_dvd}
 use Rattle.std.proofs.Math.Nat.{div-mul_cancel, mul-dvd-mul_left, dvd_of_mul-dvd-mul_right, pos_of_dvd_of_pos, div-one}
-use Rattle.crn_fraction.specs.Rational.{ℚ, whole, 0ℚ, ◌*ℚ◌, ◌/ℚ◌, ◌<ℚ◌, inverse_ℚ}
-use Rattle.crn_fraction.specs.Parts.{ratio_self, num-whole, den-whole}
+use Rattle.crn_fraction.specs.Rational.{ℚ, whole, 0ℚ, ◌*ℚ◌, ◌/ℚ◌, inverse_ℚ}
+use Rattle.crn_fraction.specs.Parts.{ratio_self, num-whole}
 use Rattle.crn_fraction.proofs.Integers.{ring_ℤ, z-writes}
 use Rattle.crn_fraction.proofs.Core.{ratio_same}
 use Rattle.crn_fraction.proofs.Ratios.{over-whole-*ℚ}
 use Rattle.crn_fraction.proofs.Ring.{zero-*ℚ}
 use Rattle.crn_fraction.proofs.Lowest.{dvd_other}
-use Rattle.crn_fraction.proofs.Products.{/ℚ-is, /ℚ-positive, *ℚ-/ℚ_assoc, whole_positive}
+use Rattle.crn_fraction.proofs.Products.{/ℚ-is, /ℚ-positive, *ℚ-/ℚ_assoc, whole_positive, positive_of_num}
+use Rattle.crn_fraction.specs.Gcd.{factor_positive}
 use Rattle.crn_linear.specs.Forms.{entry_of, wholes}
 use Rattle.crn_linear.specs.Cleared.{IsMultiple, HaveNoDivisor, IsCleared, pivot, common_den, unit_of, numerator_over, numerators, cleared, size_ℚ}
 use Rattle.crn_linear.proofs.Denominators.{den-dvd-common_den, common_den-positive, common_den-least}
@@ -40,10 +41,6 @@ regrouped : (a p : ℚ) (xs : List ℚ) → map (λ u. a *ℚ u) (map (λ x. x /
 regrouped a p [] = refl
 regrouped a p (x ∷ xs) = ap₂ (λ y ys. y ∷ ys) (*ℚ-/ℚ_assoc a x p) (regrouped a p xs)
 
--- a number with a positive numerator is above 0
-pub positive_by_num : (q : ℚ) → pos 0 <ℤ q.num → 0ℚ <ℚ q
-positive_by_num q h = record { lt = rw (num-whole (pos 0), den-whole (pos 0)) (omega (arith, ints)) }
-
 -- the numerators are a positive multiple of the form
 pub cleared_multiple : (form : List ℚ) → IsMultiple form (numerators (unit_of form))
 cleared_multiple form =
@@ -51,7 +48,7 @@ cleared_multiple form =
     let m = common_den us in
     record {
       factor = whole (pos m) /ℚ pivot form;
-      positive = /ℚ-positive (whole (pos m)) (pivot form) (whole_positive m (common_den-positive us)) (positive_by_num (pivot form) (pivot_positive form));
+      positive = /ℚ-positive (whole (pos m)) (pivot form) (whole_positive m (common_den-positive us)) (positive_of_num (pivot form) (pivot_positive form));
       same = wholes_are m us (den-dvd-common_den us) ∙ regrouped (whole (pos m)) (pivot form) form;
     }
 
@@ -107,11 +104,7 @@ no_divisor form i h sign d all =
     let some : 0 < d = pos_of_dvd_of_pos divides (common_den-positive us) in
     let rest : l ∣ l / d = common_den-least us (l / d) (λ j k. den_divides (entry_of us j) l d some (den-dvd-common_den us j k) divides (entry_divided form d all j k)) in
     let split : (l / d) * d ≡ l = div-mul_cancel d divides in
-    only_one d l (l / d) (common_den-positive us) split (le_of_dvd (positive_part (l / d) d l split (common_den-positive us)) rest) some
-  where
-    positive_part : (m d l : ℕ) → m * d ≡ l → 0 < l → 0 < m
-    positive_part zero d l e p = absurd (omega (arith, e))
-    positive_part (suc m) d l e p = omega arith
+    only_one d l (l / d) (common_den-positive us) split (le_of_dvd (factor_positive (l / d) d l split (common_den-positive us)) rest) some
 
 all_zero : (form : List ℚ) → ((i : ℕ) → i < length form → entry_of form i ≡ 0ℚ) → All (λ n. n ≡ pos 0) (numerators (unit_of form))
 all_zero form none =

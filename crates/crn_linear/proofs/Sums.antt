@@ -1,10 +1,9 @@
 -- A sum of products of whole numbers, product by product.
-use Rattle.std.proofs.Common.{◌≡◌, ℕ, zero, suc, ◌+◌, ◌*◌, ◌<◌, ◌≤◌, ◌^◌, List, [], ◌∷◌, length, get_or, take, refl, sym, ap, ap₂, ◌∙◌, arith, to_z, of_z, add-one}
+use Rattle.std.proofs.Common.{◌≡◌, ℕ, zero, suc, ◌+◌, ◌*◌, ◌<◌, ◌≤◌, ◌^◌, List, [], ◌∷◌, length, get_or, take, refl, sym, ap, ap₂, ◌∙◌, arith, to_z, of_z, add-one, replicate}
 use Rattle.std.specs.Prelude.{ℤ, pos, ◌+ℤ◌, ◌*ℤ◌, unsigned_abs}
 use Rattle.std.specs.Int.{w128}
 use Rattle.std.proofs.lemmas.Int.{ints, unsigned_abs-mul}
 use Rattle.std.proofs.lemmas.Nat.{mul-le}
-use Rattle.std.proofs.lemmas.List.{take_all}
 use Rattle.crn_fraction.proofs.Integers.{ring_ℤ, z-writes}
 use Rattle.crn_linear.specs.Rows.{dot, IsSmall}
 
@@ -21,10 +20,6 @@ pub dot_more : (i : ℕ) (xs ys : List ℤ) (s p t : ℤ) → length xs ≡ leng
     → t ≡ dot (take (i + 1) xs) (take (i + 1) ys)
 dot_more i xs ys s p t e l f g h = h ∙ ap₂ (λ a b. a +ℤ b) f g ∙ sym (rw add-one (more i xs ys l (omega (arith, e))))
 
--- all products
-pub dot_all : (i : ℕ) (xs ys : List ℤ) (s : ℤ) → length xs ≡ length ys → length xs ≤ i → s ≡ dot (take i xs) (take i ys) → s ≡ dot xs ys
-dot_all i xs ys s e l f = f ∙ ap₂ dot (take_all i xs l) (take_all i ys (omega (arith, e)))
-
 -- the product of two small numbers is so small
 pub product_small : (a b p : ℤ) → IsSmall a → IsSmall b → p ≡ a *ℤ b → unsigned_abs p ≤ 2 ^ 118
 product_small a b p h k e =
@@ -39,3 +34,9 @@ sum_fits s p i n h k l m = omega (arith, ints)
 -- and so small it stays
 pub sum_small : (s p : ℤ) (i : ℕ) → unsigned_abs s ≤ i * 2 ^ 118 → unsigned_abs p ≤ 2 ^ 118 → unsigned_abs (s +ℤ p) ≤ (i + 1) * 2 ^ 118
 sum_small s p i h k = omega (arith, ints)
+
+-- zeros have the value 0 everywhere
+pub dot-zeros : (n : ℕ) (xs : List ℤ) → dot (replicate n (pos 0)) xs ≡ pos 0
+dot-zeros zero xs = refl
+dot-zeros (suc n) [] = refl
+dot-zeros (suc n) (x ∷ xs) = rw (dot-zeros n xs) (omega (arith, ints))

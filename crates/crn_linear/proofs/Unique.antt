@@ -8,7 +8,7 @@ use Rattle.std.proofs.lemmas.List.{length-map, ext_get_or, get_or-map}
 use Rattle.std.proofs.Math.Nat.{dvd-mul_right}
 use Rattle.crn_fraction.specs.Gcd.{gcd, IsCoprime, gcd-pos, left-over_gcd, right-over_gcd, IsCoprime-over_gcd}
 use Rattle.crn_fraction.specs.Rational.{ℚ, ratio, whole, 0ℚ, ◌+ℚ◌, ◌*ℚ◌, ◌≤ℚ◌, ◌<ℚ◌}
-use Rattle.crn_fraction.specs.Parts.{ratio_self, num-whole, den-whole}
+use Rattle.crn_fraction.specs.Parts.{ratio_self}
 use Rattle.crn_fraction.proofs.Integers.{ring_ℤ, z-writes}
 use Rattle.crn_fraction.proofs.Core.{cancel_ℤ, same_from_ratio}
 use Rattle.crn_fraction.proofs.Ratios.{ratio-*ℚ, times_pos}
@@ -16,7 +16,7 @@ use Rattle.crn_fraction.proofs.Ring.{ring_ℚ, q-writes, *ℚ-zero}
 use Rattle.crn_fraction.proofs.Order.{≤ℚ_or_<ℚ, ≤ℚ_of_<ℚ}
 use Rattle.crn_fraction.proofs.Linear.{not_<ℚ}
 use Rattle.crn_fraction.proofs.Lowest.{IsCoprime-swap, dvd_other}
-use Rattle.crn_fraction.proofs.Products.{*ℚ-≤ℚ, *ℚ-<ℚ, ≤ℚ_of_*ℚ}
+use Rattle.crn_fraction.proofs.Products.{*ℚ-≤ℚ, *ℚ-<ℚ, ≤ℚ_of_*ℚ, num_of_positive}
 use Rattle.crn_linear.specs.Forms.{at, entry_of, wholes}
 use Rattle.crn_linear.specs.Rows.{value, IsBelow, Meets}
 use Rattle.crn_linear.specs.Cleared.{IsMultiple, HaveNoDivisor, IsCleared, cleared}
@@ -33,12 +33,6 @@ entry-multiple form row m i h =
     let below : i < length form = rw (← length-multiple form row m) h in
     sym (get_or-map whole row i (pos 0) 0ℚ h) ∙ ap (λ xs. get_or xs i 0ℚ) m.same ∙ get_or-map (λ x. m.factor *ℚ x) form i 0ℚ 0ℚ below
 
-positive_num : (a : ℚ) → 0ℚ <ℚ a → pos 0 <ℤ a.num
-positive_num a h =
-    let l = h.lt in
-    let l' = rw (num-whole (pos 0), den-whole (pos 0)) at l in
-    omega (arith, ints, l')
-
 -- entries of two multiples, by the factors' parts
 cross_entries : (a b : ℚ) (x y : ℤ) → 0ℚ <ℚ a → 0ℚ <ℚ b → a *ℚ whole y ≡ b *ℚ whole x
     → pos (unsigned_abs a.num * b.den) *ℤ y ≡ pos (unsigned_abs b.num * a.den) *ℤ x
@@ -47,8 +41,8 @@ cross_entries a b x y p q e =
     ap (λ r. r *ℚ whole z) (sym (ratio_self c)) ∙ ratio-*ℚ c.num c.den z 1 c.lowest.positive (omega arith) in
     let cross = same_from_ratio (a.num *ℤ y) (b.num *ℤ x) (a.den * 1) (b.den * 1)
     (times_pos a.den 1 a.lowest.positive (omega arith)) (times_pos b.den 1 b.lowest.positive (omega arith)) (sym (side a y) ∙ e ∙ side b x) in
-    arranged (unsigned_abs a.num) b.den y ∙ ap (λ n. (n *ℤ y) *ℤ pos (b.den * 1)) (sym (sized a.num (positive_num a p)))
-    ∙ cross ∙ ap (λ n. (n *ℤ x) *ℤ pos (a.den * 1)) (sized b.num (positive_num b q)) ∙ sym (arranged (unsigned_abs b.num) a.den x)
+    arranged (unsigned_abs a.num) b.den y ∙ ap (λ n. (n *ℤ y) *ℤ pos (b.den * 1)) (sym (sized a.num (num_of_positive a p)))
+    ∙ cross ∙ ap (λ n. (n *ℤ x) *ℤ pos (a.den * 1)) (sized b.num (num_of_positive b q)) ∙ sym (arranged (unsigned_abs b.num) a.den x)
   where
     sized : (z : ℤ) → pos 0 <ℤ z → z ≡ pos (unsigned_abs z)
     sized z h = omega (arith, ints)
@@ -116,7 +110,7 @@ module _ (u v : ℕ) (r s : List ℤ) (p : 0 < u) (q : 0 < v) (long : length s �
   same_rows (inl f) (inl h) = both_lowest f h
 
 size_above : (a : ℚ) → 0ℚ <ℚ a → 0 < unsigned_abs a.num
-size_above a h = let l = positive_num a h in omega (arith, ints)
+size_above a h = let l = num_of_positive a h in omega (arith, ints)
 
 -- a form has one cleared row
 pub one_cleared : (form : List ℚ) (r s : List ℤ) → IsCleared form r → IsCleared form s → r ≡ s

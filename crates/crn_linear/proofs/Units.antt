@@ -12,6 +12,8 @@ use Rattle.crn_fraction.specs.Parts.{same_parts, ratio_lowest, num-whole, den-wh
 use Rattle.crn_fraction.proofs.Core.{zero_by_num}
 use Rattle.crn_fraction.proofs.Ring.{ring_ℚ, q-writes, zero-*ℚ}
 use Rattle.crn_fraction.proofs.Products.{*ℚ-inverse, /ℚ-is, is_zero_ℚ_cases}
+use Rattle.crn_fraction.specs.Gcd.{factor_positive}
+use Rattle.crn_fraction.specs.Frac.{abs_positive}
 use Rattle.crn_linear.specs.Forms.{entry_of}
 use Rattle.crn_linear.specs.Rows.{AreSmall}
 use Rattle.crn_linear.specs.Cleared.{size_ℚ, pivot, common_den, unit_of, numerator_over, numerators, IsSmallFrac}
@@ -70,10 +72,7 @@ pivot_positive form =
 
 -- ---- a number over its size is 1 or -1
 same_size : (x : ℚ) → pos 0 <ℤ x.num → size_ℚ x ≡ x
-same_size x p = same_parts (size_ℚ x) x (num-size_ℚ x ∙ up x.num p) (den-size_ℚ x)
-  where
-    up : (n : ℤ) → pos 0 <ℤ n → pos (unsigned_abs n) ≡ n
-    up n h = omega (arith, ints)
+same_size x p = same_parts (size_ℚ x) x (num-size_ℚ x ∙ abs_positive x.num p) (den-size_ℚ x)
 
 negative_size : (x : ℚ) → x.num <ℤ pos 0 → size_ℚ x ≡ neg_ℚ x
 unfolding neg_ℚ
@@ -132,11 +131,7 @@ entry-numerators xs i h = lists.get_or-map (numerator_over (common_den xs)) xs i
 
 -- ---- sizes
 part_positive : (m d : ℕ) → 0 < m → d ∣ m → 0 < m / d
-part_positive m d p h = above (m / d) d m (div-mul_cancel d h) p
-  where
-    above : (s d m : ℕ) → s * d ≡ m → 0 < m → 0 < s
-    above zero d m e p = absurd (omega (arith, e))
-    above (suc s) d m e p = omega arith
+part_positive m d p h = factor_positive (m / d) d m (div-mul_cancel d h) p
 
 factor_small : (a s : ℕ) → 0 < s → a * s ≤ 2 ^ 59 → a ≤ 2 ^ 59
 factor_small a s p h = let l : a ≤ a * s = grind arith in omega arith

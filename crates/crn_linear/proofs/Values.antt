@@ -1,13 +1,12 @@
 -- The value of a form, product by product.
-use Rattle.std.proofs.Common.{◌≡◌, ℕ, zero, suc, ◌+◌, ◌<◌, ◌≤◌, List, [], ◌∷◌, length, get_or, take, refl, sym, ap₂, ◌∙◌, subst, arith, add-one, ⊎_elim}
+use Rattle.std.proofs.Common.{◌≡◌, ℕ, zero, suc, ◌+◌, ◌<◌, ◌≤◌, List, [], ◌∷◌, length, get_or, take, refl, sym, subst, arith, add-one, ⊎_elim}
 use Rattle.std.specs.Prelude.{pos}
-use Rattle.std.proofs.lemmas.List.{take_all}
 use Rattle.std.proofs.Math.Nat.{eq-or-lt_of_le}
 use Rattle.crn_fraction.specs.Rational.{ℚ, 0ℚ, ◌+ℚ◌, ◌*ℚ◌}
 use Rattle.crn_fraction.specs.Frac.{IsFrac}
 use Rattle.crn_fraction.specs.Parts.{num-whole, den-whole}
 use Rattle.crn_fraction.proofs.Ring.{ring_ℚ, q-writes}
-use Rattle.crn_linear.specs.Forms.{at, entry_of, IsValueInReach}
+use Rattle.crn_linear.specs.Forms.{at, entry_of}
 
 more : (i : ℕ) (a x : List ℚ) → i < length a → i < length x → at (take (suc i) a) (take (suc i) x) ≡ at (take i a) (take i x) +ℚ get_or a i 0ℚ *ℚ get_or x i 0ℚ
 more i [] x h k = absurd (omega arith)
@@ -20,10 +19,6 @@ more (suc i) (c ∷ a) (t ∷ x) h k =
 -- one more product
 pub at_more : (i : ℕ) (a x : List ℚ) → length a ≡ length x → i < length a → at (take i a) (take i x) +ℚ entry_of a i *ℚ entry_of x i ≡ at (take (i + 1) a) (take (i + 1) x)
 at_more i a x e h = sym (rw add-one (more i a x h (omega (arith, e))))
-
--- all products
-pub at_all : (i : ℕ) (a x : List ℚ) (s : ℚ) → length a ≡ length x → length a ≤ i → s ≡ at (take i a) (take i x) → s ≡ at a x
-at_all i a x s e l f = f ∙ ap₂ at (take_all i a l) (take_all i x (omega (arith, e)))
 
 -- the first `i` products and the sums of up to `i` of them fit
 pub record AreInReach (a x : List ℚ) (i : ℕ) : Type 0 where
@@ -55,7 +50,3 @@ reach_more a x i r p s = record {
   products = λ k h. ⊎_elim (λ e. subst (λ j. IsFrac (entry_of a j *ℚ entry_of x j)) (sym e) p) (λ l. r.products k l) (eq-or-lt_of_le {n = k} {m = i} (omega arith));
   sums = λ k h. ⊎_elim (λ e. subst (λ j. IsFrac (at (take j a) (take j x))) (sym e) s) (λ l. r.sums k (omega arith)) (eq-or-lt_of_le {n = k} {m = i + 1} h);
 }
-
--- and at last all
-pub reach_all : (a x : List ℚ) (i : ℕ) → length a ≤ i → AreInReach a x i → IsValueInReach a x
-reach_all a x i l r = record { products = λ k h. r.products k (omega arith); sums = λ k h. r.sums k (omega arith) }

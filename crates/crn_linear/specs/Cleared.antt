@@ -1,8 +1,8 @@
 -- The cleared row of a form: its positive multiple with whole entries that have no common divisor but 1, or the zero row.
-use Rattle.std.specs.Prelude.{◌≡◌, ◌⊎◌, ℕ, ◌*◌, ◌/◌, ◌<◌, ◌≤◌, ◌^◌, ℤ, pos, ◌*ℤ◌, unsigned_abs, List, [], ◌∷◌, map, cond}
+use Rattle.std.specs.Prelude.{◌≡◌, ◌⊎◌, ℕ, ◌/◌, ◌<◌, ◌≤◌, ◌^◌, ℤ, pos, ◌*ℤ◌, unsigned_abs, List, [], ◌∷◌, map, cond}
 use Rattle.std.specs.List.{All, fold}
 use Rattle.std.specs.Int.{◌∣◌}
-use Rattle.crn_fraction.specs.Gcd.{gcd}
+use Rattle.crn_fraction.specs.Gcd.{lcm}
 use Rattle.crn_fraction.specs.Rational.{ℚ, IsLowest, ratio, whole, 0ℚ, ◌*ℚ◌, ◌/ℚ◌, ◌<ℚ◌, is_zero_ℚ}
 use Rattle.crn_fraction.specs.Parts.{ratio_lowest}
 use Rattle.std.proofs.Common.{ap}
@@ -32,10 +32,6 @@ size_ℚ x = ratio (pos (unsigned_abs x.num)) x.den
 abbrev pub pivot : List ℚ → ℚ
 pivot [] = whole (pos 1)
 pivot (x ∷ xs) = cond (is_zero_ℚ x) (pivot xs) (size_ℚ x)
-
--- the least common multiple
-abbrev pub lcm : ℕ → ℕ → ℕ
-lcm a b = (a / gcd a b) * b
 
 -- the least common denominator
 abbrev pub common_den : List ℚ → ℕ

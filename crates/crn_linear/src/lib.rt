@@ -6,7 +6,6 @@ ghost use Rattle.std.specs.Prelude.{◌≡◌, ◌*◌, ◌<◌, ◌≤◌, ◌^
 ghost use Rattle.std.specs.List.{All};
 ghost use Rattle.std.specs.Result.{OkIff};
 ghost use Rattle.std.specs.Ordering.{int_cmp};
-ghost use Rattle.crn_fraction.specs.Gcd.{gcd};
 ghost use Rattle.crn_fraction.specs.Rational.{ratio, ◌-ℚ◌, ◌/ℚ◌};
 ghost use Rattle.crn_linear.specs.Forms.{at, entry_of, minus, IsValueInReach};
 ghost use Rattle.crn_linear.specs.Rows.{dot, IsSmall, AreSmall, opposite_of};
@@ -14,6 +13,7 @@ ghost use Rattle.crn_linear.specs.Cleared.{pivot, size_ℚ, common_den, unit_of,
 ghost use Rattle.crn_linear.specs.Views.{HasColumns, padded};
 ghost use Rattle.crn_linear.specs.Strengths.{is_strict, row_with};
 
+use crn_fraction::divisors::{lcm, wide_gcd};
 use crn_fraction::{Frac, TooBig};
 use std::cmp::Ordering;
 use std::marker::Model;
@@ -429,8 +429,7 @@ fn common_den(units: &Form) -> Result<u64, TooBig>
     let mut common = 1u64;
     for i in 0..units.len() {
         let den = units.coeff(i).den() as u64;
-        let shared = short_gcd(common, den);
-        let multiple = (common / shared) as u128 * den as u128;
+        let multiple = lcm(common, den);
         if multiple > LIMIT {
             return Err(TooBig);
         }
@@ -482,41 +481,11 @@ fn lowest_terms(num: i128, den: u128) -> (i128, u128)
     ensures small_num { unsigned_abs result.0 ≤ unsigned_abs num }
     ensures small_den { result.1 ≤ den }
 {
-    let common = gcd(num.unsigned_abs(), den);
+    let common = wide_gcd(num.unsigned_abs(), den);
     if common == 1 {
         return (num, den);
     }
     (num / common as i128, den / common)
-}
-
-// The greatest common divisor, in 64 bits from where they suffice.
-fn gcd(a: u128, b: u128) -> u128
-    ensures { result ≡ gcd a b }
-{
-    let mut x = a;
-    let mut y = b;
-    while y > u64::MAX as u128 {
-        let rest = x % y;
-        x = y;
-        y = rest;
-    }
-    if y == 0 {
-        return x;
-    }
-    short_gcd(y as u64, (x % y) as u64) as u128
-}
-
-fn short_gcd(a: u64, b: u64) -> u64
-    ensures { result ≡ gcd a b }
-{
-    let mut x = a;
-    let mut y = b;
-    while y != 0 {
-        let rest = x % y;
-        x = y;
-        y = rest;
-    }
-    x
 }
 
 // The entries with 0 past the last.

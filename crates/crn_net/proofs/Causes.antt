@@ -1,5 +1,6 @@
 -- Causes of refusal exclude each other, and valid parts have none.
-use Rattle.std.proofs.Common.{◌≡◌, ◌≢◌, ℕ, ◌<◌, length, refl, sym, ◌∙◌, ap, subst, ◌⊎◌, inl, inr, ⊎_elim, arith}
+use Rattle.std.proofs.Common.{◌≡◌, ◌≢◌, ℕ, ◌<◌, length, refl, sym, ◌∙◌, ap, subst, ◌⊎◌, inl, inr, ⊎_elim}
+use Rattle.std.proofs.lemmas.Bool.{cases_order}
 use Rattle.crn_net.proofs.InputLists.{inputs_take}
 use Rattle.crn_net.specs.Causes.{IsFirst, IsCause, AreInputsTo, IsReactionAt}
 use Rattle.crn_net.specs.Limits.{IsValid}
@@ -12,10 +13,7 @@ first_is : (P : ℕ → Type 0) (n i j : ℕ) → IsFirst P n i → IsFirst P n 
 first_is P n i j h k =
     ⊎_elim (λ (e : i ≡ j). e)
     (λ (o : (i < j) ⊎ (j < i)). absurd (⊎_elim (λ (l : i < j). h.here (k.earlier i h.low l)) (λ (l : j < i). k.here (h.earlier j k.low l)) o))
-    (three_ways i j)
-  where
-    three_ways : (q r : ℕ) → (q ≡ r) ⊎ ((q < r) ⊎ (r < q))
-    three_ways q r = grind arith
+    (cases_order i j)
 
 pub valid_has_none : (net : Network) (e : NetworkError) → e ≢ Memory → IsCause net e → IsValid net → ⊥
 valid_has_none net (Species k) m h v = h.1 (v.limits.some_species, v.limits.few_species)

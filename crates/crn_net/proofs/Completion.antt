@@ -3,8 +3,8 @@ use Rattle.std.proofs.Common.{◌≡◌, ◌≢◌, ℕ, zero, suc, ◌<◌, ◌
 use Rattle.std.proofs.lemmas.Bool.Decides.{nat_tests}
 use Rattle.std.specs.Prelude.{pos}
 use Rattle.crn_fraction.proofs.Linear.{+ℚ-≤ℚ_left, ≤ℚ_of_+ℚ_left, not_<ℚ, ≤ℚ_trans}
-use Rattle.crn_fraction.proofs.Order.{≤ℚ_or_<ℚ, ≤ℚ_of_<ℚ, ≤ℚ_refl, ≤ℚ_antisymm}
-use Rattle.crn_fraction.proofs.Products.{whole-*ℚ-≤ℚ, ≤ℚ_of_whole-*ℚ, is_zero_ℚ_cases}
+use Rattle.crn_fraction.proofs.Order.{≤ℚ_or_<ℚ, ≤ℚ_of_<ℚ, ≤ℚ_refl}
+use Rattle.crn_fraction.proofs.Products.{whole-*ℚ-≤ℚ, ≤ℚ_of_whole-*ℚ, is_zero_ℚ_cases, positive_of_nonneg}
 use Rattle.crn_fraction.proofs.Ring.{+ℚ-zero, +ℚ_comm, *ℚ-zero, +ℚ_cancel_right}
 use Rattle.crn_fraction.specs.Rational.{ℚ, 0ℚ, ◌+ℚ◌, ◌*ℚ◌, ◌≤ℚ◌, ◌<ℚ◌, whole}
 use Rattle.crn_net.proofs.Balance.{amount-outside, after-leads}
@@ -117,9 +117,6 @@ with_greatest_cases net r c =
     let u : ℚ = greatest_flux net r (amount c) in
     ⊎_elim (λ h. inl (h.0, ap (λ b. if b then [] else alone r u ∷ []) h.1)) (λ h. inr (h.0, ap (λ b. if b then [] else alone r u ∷ []) h.1)) (is_zero_ℚ_cases u)
 
-positive_of_nonzero : (u : ℚ) → 0ℚ ≤ℚ u → u ≢ 0ℚ → 0ℚ <ℚ u
-positive_of_nonzero u h z = ⊎_elim (λ (k : u ≤ℚ 0ℚ). absurd (z (≤ℚ_antisymm u 0ℚ k h))) (λ (k : 0ℚ <ℚ u). k) (≤ℚ_or_<ℚ u 0ℚ)
-
 -- what one turn of the completion does
 record Turn (net : Network) (r : ℕ) (c : List ℚ) (us : List (List Flow)) : Type 0 where
   runs : Run net c us (after_all net c us)
@@ -163,7 +160,7 @@ module _ (net : Network) (ok : AreReactions net) (ff : IsFeedForward net) (r : �
         keeps = λ q l k. k;
       }))
       (λ (h : (u ≢ 0ℚ) × (with_greatest net r c ≡ alone r u ∷ [])). subst (Turn net r c) (sym h.1) (record {
-        runs = (legal_alone net ok r low high c nn u (positive_of_nonzero u not_negative h.0) (λ s t. greatest_flux_fits net ok r low high (amount c) s t), refl);
+        runs = (legal_alone net ok r low high c nn u (positive_of_nonneg u not_negative h.0) (λ s t. greatest_flux_fits net ok r low high (amount c) s t), refl);
         lacks = (used.0, used.1, lacks_after u used.0 used.1 used.2);
         keeps = λ q l k. keeps_lack u q l k;
       }))

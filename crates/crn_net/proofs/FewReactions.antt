@@ -1,23 +1,16 @@
 -- Reactions that feed forward are no more than the species: each takes one that no other takes.
-use Rattle.std.proofs.Common.{◌≡◌, ◌≢◌, ℕ, suc, ◌<◌, ◌≤◌, ◌==◌, if◌then◌else◌, eqb, Bool, true, false, List, [], ◌∷◌, length, refl, sym, ◌∙◌, ap, subst, ◌⊎◌, ⊎_elim, arith}
+use Rattle.std.proofs.Common.{◌≡◌, ◌≢◌, ℕ, suc, ◌<◌, ◌≤◌, ◌==◌, if◌then◌else◌, eqb, Bool, true, false, List, [], ◌∷◌, length, refl, sym, ◌∙◌, ap, subst, ⊎_elim, arith}
 use Rattle.std.specs.List.{list_any, AllByRecursion, IsDistinct}
 use Rattle.std.proofs.lemmas.Bool.Decides.{nat_tests}
 use Rattle.std.proofs.lemmas.Map.Steps.{length-le_from_distinct_below}
+use Rattle.std.proofs.lemmas.Bool.{cases_eq}
 use Rattle.crn_net.specs.Network.{Part, Reaction, count_of, IsApart, AreDifferent, AreParts, IsReaction}
-use Rattle.crn_net.specs.Reactions.{taken_all, Each, IsLeftAlone, EachReaction, FeedsForward}
+use Rattle.crn_net.specs.Reactions.{taken_all, Each, IsLeftAlone, EachReaction, FeedsForward, AreAtMost}
 
 -- ---- different numbers of a range
 
-same_or_other : (a b : ℕ) → (a ≡ b) ⊎ (a ≢ b)
-same_or_other a b = grind arith
-
 test_other : (a b : ℕ) → a ≢ b → eqb a b ≡ false
 test_other a b h = grind (arith, nat_tests)
-
--- each is at most n
-abbrev AreAtMost : ℕ → List ℕ → Type 0
-AreAtMost n [] = Unit {0}
-AreAtMost n (x ∷ xs) = (x ≤ n) × AreAtMost n xs
 
 apart_tests : (x : ℕ) (xs : List ℕ) → IsApart x xs → AllByRecursion (λ y. eqb x y ≡ false) xs
 apart_tests x [] h = tt
@@ -32,7 +25,7 @@ member_at_most : (n q : ℕ) (xs : List ℕ) → AreAtMost n xs → list_any (eq
 member_at_most n q [] h e = absurd (cc e)
 member_at_most n q (x ∷ xs) h e =
     ⊎_elim (λ (same : q ≡ x). subst (λ v. v ≤ n) (sym same) h.0)
-    (λ (other : q ≢ x). member_at_most n q xs h.1 (sym (ap (λ b. or b (list_any (eqb q) xs)) (test_other q x other)) ∙ e)) (same_or_other q x)
+    (λ (other : q ≢ x). member_at_most n q xs h.1 (sym (ap (λ b. or b (list_any (eqb q) xs)) (test_other q x other)) ∙ e)) (cases_eq q x)
   where
     or : Bool → Bool → Bool
     or true b = true

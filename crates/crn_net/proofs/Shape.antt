@@ -1,20 +1,18 @@
 -- The shape of a network: which species a reaction takes, and how often; and its greatest flux.
-use Rattle.std.proofs.Common.{◌≡◌, ◌≢◌, ℕ, ◌+◌, ◌<◌, ◌≤◌, ◌==◌, if◌then◌else◌, List, [], ◌∷◌, length, refl, sym, ◌∙◌, ap, subst, ◌⊎◌, ⊎_elim, eq-zero-or-pos, zero-add, add-zero, arith}
+use Rattle.std.proofs.Common.{◌≡◌, ◌≢◌, ℕ, ◌+◌, ◌<◌, ◌≤◌, ◌==◌, if◌then◌else◌, List, [], ◌∷◌, length, refl, sym, ◌∙◌, ap, subst, ⊎_elim, eq-zero-or-pos, zero-add, add-zero, arith}
 use Rattle.std.proofs.lemmas.Bool.Decides.{nat_tests}
 use Rattle.std.specs.Prelude.{pos}
+use Rattle.std.proofs.lemmas.Bool.{cases_eq}
 use Rattle.crn_fraction.proofs.Linear.{≤ℚ_trans, min_ℚ-below_left, min_ℚ-below_right}
 use Rattle.crn_fraction.proofs.Order.{≤ℚ_refl, min_ℚ_cases}
 use Rattle.crn_fraction.proofs.Products.{whole-*ℚ-/ℚ, whole-*ℚ-≤ℚ}
 use Rattle.crn_fraction.specs.Rational.{ℚ, ◌*ℚ◌, ◌≤ℚ◌, whole, ◌/ℚ◌}
 use Rattle.crn_net.specs.Network.{Part, count_of, greatest, AreParts}
 
-same_or_other : (a b : ℕ) → (a ≡ b) ⊎ (a ≢ b)
-same_or_other a b = grind arith
-
-if_same : (a b k : ℕ) → a ≡ b → (if a == b then k else 0) ≡ k
+pub if_same : (a b k : ℕ) → a ≡ b → (if a == b then k else 0) ≡ k
 if_same a b k e = grind (arith, nat_tests)
 
-if_other : (a b k : ℕ) → a ≢ b → (if a == b then k else 0) ≡ 0
+pub if_other : (a b k : ℕ) → a ≢ b → (if a == b then k else 0) ≡ 0
 if_other a b k e = grind (arith, nat_tests)
 
 pub count_of_other : (p : Part) (ps : List Part) (s : ℕ) → p.species ≢ s → count_of (p ∷ ps) s ≡ count_of ps s
@@ -29,7 +27,7 @@ count_of_in_range low n (p ∷ ps) s h k =
     let rest : (p.species < s) × (s ≤ n) = count_of_in_range p.species n ps s h.3 (subst (λ k. 0 < k) (count_of_other p ps s other) k) in
     let l : low < p.species = h.0 in
     (omega arith, rest.1))
-    (same_or_other p.species s)
+    (cases_eq p.species s)
 
 -- and none at or below its lower end
 count_of_low : (low n : ℕ) (ps : List Part) (s : ℕ) → AreParts low n ps → s ≤ low → count_of ps s ≡ 0
@@ -70,7 +68,7 @@ greatest_fits low n (p ∷ ps) m s h k =
     let nonzero : 0 < count_of ps s = subst (λ x. 0 < x) is k in
     subst (λ x. whole (pos x) *ℚ greatest (p ∷ ps) m ≤ℚ m s) (sym is)
     (≤ℚ_trans _ _ _ (whole-*ℚ-≤ℚ _ _ (count_of ps s) (tail_fits p ps m (not_empty ps s nonzero))) (greatest_fits p.species n ps m s h.3 nonzero)))
-    (same_or_other p.species s)
+    (cases_eq p.species s)
 
 -- a part that is used up by u
 abbrev UsedUp : List Part → (ℕ → ℚ) → ℚ → Type 0

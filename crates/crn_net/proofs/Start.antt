@@ -1,9 +1,9 @@
 -- The amounts of a start. None is negative.
-use Rattle.std.proofs.Common.{◌≡◌, ◌≢◌, ◌==◌, refl, ap, sym, ◌∙◌, ℕ, zero, suc, ◌<◌, ◌≤◌, if◌then◌else◌, Bool, true, false, List, [], ◌∷◌, subst, ⊎_elim, arith}
+use Rattle.std.proofs.Common.{◌≡◌, ◌≢◌, ◌==◌, refl, ap, sym, ◌∙◌, ℕ, zero, suc, ◌<◌, ◌≤◌, if◌then◌else◌, Bool, true, false, List, [], ◌∷◌, subst, ⊎_elim, arith, ◌++◌}
 use Rattle.std.specs.Prelude.{Option, None, Some, pos}
-use Rattle.std.proofs.lemmas.Bool.Decides.{nat_tests}
 use Rattle.std.proofs.lemmas.List.FromFn.{get_or-map-range_with_len, length-map-range_with_len}
 use Rattle.std.proofs.lemmas.List.{get_or_past}
+use Rattle.std.proofs.lemmas.Bool.{eq-eqb, ne_eqb}
 use Rattle.crn_fraction.proofs.Order.{≤ℚ_refl}
 use Rattle.crn_fraction.proofs.Products.{whole_nonneg}
 use Rattle.crn_fraction.specs.Rational.{ℚ, 0ℚ, ◌≤ℚ◌, whole}
@@ -12,20 +12,20 @@ use Rattle.crn_net.specs.Network.{Network, IsContext, IsNetwork, IsState, amount
 -- ---- a choice by equal numbers
 
 pub pick_yes : (a b : ℕ) (x y : ℚ) → a ≡ b → (if a == b then x else y) ≡ x
-pick_yes a b x y e = ap (λ t. if t then x else y) (same a b e)
-  where
-    same : (a b : ℕ) → a ≡ b → (a == b) ≡ true
-    same a b e = grind (arith, nat_tests)
+pick_yes a b x y e = ap (λ t. if t then x else y) (eq-eqb a b e)
 
 pub pick_no : (a b : ℕ) (x y : ℚ) → a ≢ b → (if a == b then x else y) ≡ y
-pick_no a b x y h = ap (λ t. if t then x else y) (other a b h)
-  where
-    other : (a b : ℕ) → a ≢ b → (a == b) ≡ false
-    other a b e = grind (arith, nat_tests)
+pick_no a b x y h = ap (λ t. if t then x else y) (ne_eqb a b h)
 
-either : (b : Bool) (x y : ℚ) → 0ℚ ≤ℚ x → 0ℚ ≤ℚ y → 0ℚ ≤ℚ (if b then x else y)
-either true x y h k = h
-either false x y h k = k
+-- the numbers of two lists are not negative where those of each are
+pub AreNotNegative-append : (xs ys : List ℚ) → AreNotNegative xs → AreNotNegative ys → AreNotNegative (xs ++ ys)
+AreNotNegative-append [] ys h k = k
+AreNotNegative-append (x ∷ xs) ys h k = (h.0, AreNotNegative-append xs ys h.1 k)
+
+-- the one of two numbers that a test picks is not negative where neither is
+pub pick_nonnegative : (b : Bool) (x y : ℚ) → 0ℚ ≤ℚ x → 0ℚ ≤ℚ y → 0ℚ ≤ℚ (if b then x else y)
+pick_nonnegative true x y h k = h
+pick_nonnegative false x y h k = k
 
 -- ---- the amount of a species
 
@@ -49,21 +49,16 @@ pub amount-context : (net : Network) (xs : List ℚ) (k : ℕ) → net.context �
 amount-context net xs k is low high =
     amount-start net xs k low high ∙ ap (λ o. or_context o k (given_to (input_species net.inputs) xs k)) is ∙ pick_yes k k _ _ refl
 
--- of each other species a start has what is given
-pub or_context-other : (o : Option ℕ) (s : ℕ) (x : ℚ) → ((k : ℕ) → o ≡ Some k → k ≢ s) → or_context o s x ≡ x
-or_context-other None s x h = refl
-or_context-other (Some k) s x h = pick_no k s _ x (h k refl)
-
 -- ---- no amount is negative
 
 given_to_not_negative : (is : List ℕ) (xs : List ℚ) (s : ℕ) → AreNotNegative xs → 0ℚ ≤ℚ given_to is xs s
 given_to_not_negative [] xs s h = ≤ℚ_refl 0ℚ
 given_to_not_negative (i ∷ is) [] s h = ≤ℚ_refl 0ℚ
-given_to_not_negative (i ∷ is) (x ∷ xs) s h = either _ x _ h.0 (given_to_not_negative is xs s h.1)
+given_to_not_negative (i ∷ is) (x ∷ xs) s h = pick_nonnegative _ x _ h.0 (given_to_not_negative is xs s h.1)
 
 or_context_not_negative : (o : Option ℕ) (s : ℕ) (x : ℚ) → 0ℚ ≤ℚ x → 0ℚ ≤ℚ or_context o s x
 or_context_not_negative None s x h = h
-or_context_not_negative (Some k) s x h = either (k == s) (whole (pos 1)) x (whole_nonneg 1) h
+or_context_not_negative (Some k) s x h = pick_nonnegative (k == s) (whole (pos 1)) x (whole_nonneg 1) h
 
 pub start_not_negative : (net : Network) (xs : List ℚ) → AreNotNegative xs → IsNotNegative (start net xs)
 start_not_negative net xs h zero = ≤ℚ_refl 0ℚ

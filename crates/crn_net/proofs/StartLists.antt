@@ -2,6 +2,7 @@
 use Rattle.std.proofs.Common.{◌≡◌, ◌≢◌, ◌==◌, ℕ, zero, suc, ◌+◌, ◌<◌, ◌≤◌, if◌then◌else◌, List, [], ◌∷◌, ◌++◌, length, take, drop, get_or, refl, sym, ap, ◌∙◌, subst, inl, inr, ◌⊎◌, ⊎_elim, arith}
 use Rattle.std.proofs.lemmas.List.{take_more, ext_get_or}
 use Rattle.std.proofs.lemmas.List.FromFn.{length-map-range_with_len}
+use Rattle.std.proofs.lemmas.Bool.{cases_eq}
 use Rattle.crn_fraction.specs.Rational.{ℚ, 0ℚ}
 use Rattle.crn_net.proofs.InputLists.{species_push, inputs_take, input_is_new}
 use Rattle.crn_net.proofs.Start.{pick_yes, pick_no, start_amount}
@@ -12,16 +13,13 @@ use Rattle.crn_net.specs.declared.Ends.TheVariants.{Pair, One}
 
 -- ---- what lists of species and amounts give
 
-same_or_other : (a b : ℕ) → (a ≡ b) ⊎ (a ≢ b)
-same_or_other a b = grind arith
-
 -- a species is not among them, or it is
 pub apart_or_in : (s : ℕ) (is : List ℕ) → IsApart s is ⊎ (IsApart s is → ⊥)
 apart_or_in s [] = inl tt
 apart_or_in s (i ∷ is) =
     ⊎_elim (λ (e : s ≡ i). inr (λ h. h.0 e))
     (λ (n : s ≢ i). ⊎_elim (λ (a : IsApart s is). inl (n, a)) (λ (b : IsApart s is → ⊥). inr (λ h. b h.1)) (apart_or_in s is))
-    (same_or_other s i)
+    (cases_eq s i)
 
 -- nothing is given to a species that is not among them
 pub given_nothing : (is : List ℕ) (xs : List ℚ) (s : ℕ) → IsApart s is → given_to is xs s ≡ 0ℚ
@@ -46,7 +44,7 @@ given_before (i ∷ is) js [] s h long = absurd (omega arith)
 given_before (i ∷ is) js (x ∷ xs) s h long =
     ⊎_elim (λ (e : i ≡ s). pick_yes i s x _ e ∙ sym (pick_yes i s x _ e))
     (λ (n : i ≢ s). ap (λ w. if i == s then x else w) (given_before is js xs s (λ a. h ((λ e. n (sym e)), a)) (omega arith)))
-    (same_or_other i s)
+    (cases_eq i s)
 
 -- no species of these is among those
 pub new_apart : (s : ℕ) (js earlier : List ℕ) → AreNew js earlier → (IsApart s earlier → ⊥) → IsApart s js

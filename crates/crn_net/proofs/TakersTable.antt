@@ -7,30 +7,22 @@ use Rattle.std.proofs.Math.Seq.{get_or-append_seam, take-suc}
 use Rattle.std.proofs.lemmas.List.{get_or-set_same, get_or-set_other, length-set, take-append-drop, ext_get_or, get_or-take, get_or-drop, length-take, take_all}
 use Rattle.std.specs.Prelude.{filter, nat_lt}
 use Rattle.std.specs.List.{range_with_len}
+use Rattle.std.proofs.lemmas.Bool.{cases_eq, eq-eqb, ne_eqb}
 use Rattle.crn_net.proofs.Shape.{count_of_other}
 use Rattle.crn_net.specs.Network.{Network, Reaction, Part, IsReaction, AreReactions, AreParts, count_of, taken}
 use Rattle.crn_net.specs.Reactions.{EachReaction}
 use Rattle.crn_net.specs.Takers.{takers_of, entries_of, entries_from, numbers_of, sum_upto, start_of, AreEntries, IsTable}
 use Rattle.crn_net.specs.declared.takers.Entry.{Entry}
 
-same_or_other : (a b : ℕ) → (a ≡ b) ⊎ (a ≢ b)
-same_or_other a b = grind arith
-
 -- ---- the entries of a species
 
 -- an entry of the species
 hit : (s : ℕ) (e : Entry) (es : List Entry) → e.species ≡ s → numbers_of s (e ∷ es) ≡ e.reaction ∷ numbers_of s es
-hit s e es h = ap (λ b. if b then e.reaction ∷ numbers_of s es else numbers_of s es) (same e.species s h)
-  where
-    same : (a b : ℕ) → a ≡ b → (a == b) ≡ true
-    same a b h = grind (arith, nat_tests)
+hit s e es h = ap (λ b. if b then e.reaction ∷ numbers_of s es else numbers_of s es) (eq-eqb e.species s h)
 
 -- one of another
 miss : (s : ℕ) (e : Entry) (es : List Entry) → e.species ≢ s → numbers_of s (e ∷ es) ≡ numbers_of s es
-miss s e es h = ap (λ b. if b then e.reaction ∷ numbers_of s es else numbers_of s es) (other e.species s h)
-  where
-    other : (a b : ℕ) → a ≢ b → (a == b) ≡ false
-    other a b h = grind (arith, nat_tests)
+miss s e es h = ap (λ b. if b then e.reaction ∷ numbers_of s es else numbers_of s es) (ne_eqb e.species s h)
 
 -- the entries from i on are the next one and those after it
 next_entry : (es : List Entry) (i : ℕ) (d : Entry) → i < length es → drop i es ≡ get_or es i d ∷ drop (suc i) es
@@ -58,7 +50,7 @@ module _ (es : List Entry) (i : ℕ) (d : Entry) (l : i < length es) where
 pub numbers_few : (s : ℕ) (es : List Entry) → length (numbers_of s es) ≤ length es
 numbers_few s [] = omega arith
 numbers_few s (e ∷ es) =
-    ⊎_elim (λ (h : e.species ≡ s). omega (arith, ap length (hit s e es h), numbers_few s es)) (λ (h : e.species ≢ s). omega (arith, ap length (miss s e es h), numbers_few s es)) (same_or_other e.species s)
+    ⊎_elim (λ (h : e.species ≡ s). omega (arith, ap length (hit s e es h), numbers_few s es)) (λ (h : e.species ≢ s). omega (arith, ap length (miss s e es h), numbers_few s es)) (cases_eq e.species s)
 
 -- ---- sums
 
@@ -86,10 +78,10 @@ sum_over e es n h = sum_same _ _ n (λ k l. let other : e.species ≢ k = omega 
 
 sum_hit : (e : Entry) (es : List Entry) (n : ℕ) → start_of (e ∷ es) n ≤ suc (start_of es n)
 sum_hit e es zero =
-    ⊎_elim (λ (h : e.species ≡ 0). omega (arith, ap length (hit 0 e es h))) (λ (h : e.species ≢ 0). omega (arith, ap length (miss 0 e es h))) (same_or_other e.species 0)
+    ⊎_elim (λ (h : e.species ≡ 0). omega (arith, ap length (hit 0 e es h))) (λ (h : e.species ≢ 0). omega (arith, ap length (miss 0 e es h))) (cases_eq e.species 0)
 sum_hit e es (suc n) =
     ⊎_elim (λ (h : e.species ≡ suc n). let before : start_of (e ∷ es) n ≡ start_of es n = sum_over e es n (omega arith) in omega (arith, ap length (hit (suc n) e es h)))
-    (λ (h : e.species ≢ suc n). omega (arith, sum_hit e es n, ap length (miss (suc n) e es h))) (same_or_other e.species (suc n))
+    (λ (h : e.species ≢ suc n). omega (arith, sum_hit e es n, ap length (miss (suc n) e es h))) (cases_eq e.species (suc n))
 
 start_none : (n : ℕ) → start_of [] n ≡ 0
 start_none zero = refl
@@ -133,7 +125,7 @@ module _ (n : ℕ) (cs : List ℕ) (es : List Entry) (i : ℕ) (d : Entry) (x : 
         omega (arith, counted s h, count_hit es i d l s e, found))
         (λ (o : (get_or es i d).species ≢ s).
         let w : get_or (set cs (get_or es i d).species (x + 1)) s 0 ≡ get_or cs s 0 = get_or-set_other cs (get_or es i d).species s (x + 1) 0 (λ e. o (sym e)) in
-        omega (arith, counted s h, count_miss es i d l s o)) (same_or_other (get_or es i d).species s),
+        omega (arith, counted s h, count_miss es i d l s o)) (cases_eq (get_or es i d).species s),
   )
 
 -- one more count is added
@@ -149,7 +141,7 @@ module _ (cs old : List ℕ) (i : ℕ) (low : 1 ≤ i) (l : i < length cs) (long
         subst (λ k. get_or (set cs i (get_or cs i 0 + get_or cs (i - 1) 0)) k 0 ≡ get_or cs i 0 + get_or cs (i - 1) 0) e (get_or-set_same cs i _ 0 l) in
         let t : sum_upto (λ k. get_or old k 0) i ≡ sum_upto (λ k. get_or old k 0) s = ap (sum_upto (λ k. get_or old k 0)) e in
         omega (arith, summed (i - 1) (omega arith), rest i (omega arith), sum_step (λ k. get_or old k 0) i low))
-        (λ (o : i ≢ s). get_or-set_other cs i s _ 0 (λ e. o (sym e)) ∙ summed s (omega arith)) (same_or_other i s),
+        (λ (o : i ≢ s). get_or-set_other cs i s _ 0 (λ e. o (sym e)) ∙ summed s (omega arith)) (cases_eq i s),
     λ s h. get_or-set_other cs i s _ 0 (omega arith) ∙ rest s (omega arith),
   )
 
@@ -159,7 +151,7 @@ numbers_of-append : (s : ℕ) (es fs : List Entry) → numbers_of s (es ++ fs) �
 numbers_of-append s [] fs = refl
 numbers_of-append s (e ∷ es) fs =
     ⊎_elim (λ (h : e.species ≡ s). hit s e (es ++ fs) h ∙ ap (λ v. e.reaction ∷ v) (numbers_of-append s es fs) ∙ ap (λ v. v ++ numbers_of s fs) (sym (hit s e es h)))
-    (λ (h : e.species ≢ s). miss s e (es ++ fs) h ∙ numbers_of-append s es fs ∙ ap (λ v. v ++ numbers_of s fs) (sym (miss s e es h))) (same_or_other e.species s)
+    (λ (h : e.species ≢ s). miss s e (es ++ fs) h ∙ numbers_of-append s es fs ∙ ap (λ v. v ++ numbers_of s fs) (sym (miss s e es h))) (cases_eq e.species s)
 
 -- the places that are begun, and what stands in them: of each species, what is done of its entries
 pub record Filled (n : ℕ) (starts : List ℕ) (done : List Entry) (next numbers : List ℕ) : Type 0 where
@@ -227,8 +219,8 @@ module _ (n : ℕ) (starts : List ℕ) (es : List Entry) (start : (s : ℕ) → 
     filled_more = record {
       long = length-set next _ _ ∙ filled.long;
       room = λ s h. omega (arith, filled.room s h, length-set numbers (get_or next ((get_or es i d).species - 1) 0) (get_or es i d).reaction);
-      places = λ s h. ⊎_elim (λ (same : (get_or es i d).species - 1 ≡ s). places_same s h same) (λ (other : (get_or es i d).species - 1 ≢ s). places_other s h other) (same_or_other ((get_or es i d).species - 1) s);
-      written = λ s j h k. ⊎_elim (λ (same : (get_or es i d).species - 1 ≡ s). written_same s j h k same) (λ (other : (get_or es i d).species - 1 ≢ s). written_other s j h k other) (same_or_other ((get_or es i d).species - 1) s);
+      places = λ s h. ⊎_elim (λ (same : (get_or es i d).species - 1 ≡ s). places_same s h same) (λ (other : (get_or es i d).species - 1 ≢ s). places_other s h other) (cases_eq ((get_or es i d).species - 1) s);
+      written = λ s j h k. ⊎_elim (λ (same : (get_or es i d).species - 1 ≡ s). written_same s j h k same) (λ (other : (get_or es i d).species - 1 ≢ s). written_other s j h k other) (cases_eq ((get_or es i d).species - 1) s);
     }
       where
         places_same : (s : ℕ) → s < n → (get_or es i d).species - 1 ≡ s → get_or (set next ((get_or es i d).species - 1) (get_or next ((get_or es i d).species - 1) 0 + 1)) s 0 ≡ get_or starts s 0 + length (numbers_of (suc s) (take (i + 1) es))
@@ -256,7 +248,7 @@ module _ (n : ℕ) (starts : List ℕ) (es : List Entry) (start : (s : ℕ) → 
             let earlier : j < length (numbers_of (suc s) (take i es)) = omega (arith, ap length (done_hit (suc s) at), length-append (numbers_of (suc s) (take i es)) ((get_or es i d).reaction ∷ [])) in
             get_or-set_other numbers _ (get_or starts s 0 + j) _ 0 (omega (arith, filled.places s h)) ∙ filled.written s j h earlier
             ∙ sym (ap (λ v. get_or v j 0) (done_hit (suc s) at) ∙ get_or-append (numbers_of (suc s) (take i es)) _ 0 j earlier))
-            (same_or_other (length (numbers_of (suc s) (take i es))) j)
+            (cases_eq (length (numbers_of (suc s) (take i es))) j)
 
         written_other : (s j : ℕ) → s < n → j < length (numbers_of (suc s) (take (i + 1) es)) → (get_or es i d).species - 1 ≢ s →
             get_or (set numbers (get_or next ((get_or es i d).species - 1) 0) (get_or es i d).reaction) (get_or starts s 0 + j) 0 ≡ get_or (numbers_of (suc s) (take (i + 1) es)) j 0
@@ -299,10 +291,6 @@ filled_first starts es next numbers some start same long = record {
   places = λ s h. let e : get_or next s 0 ≡ get_or starts s 0 = ap (λ v. get_or v s 0) same in omega arith;
   written = λ s j h k. absurd (omega arith);
 }
-
--- the last of the starts fits, and so does what is below
-pub last_fits : (n x : ℕ) → x < n → n < 2 ^ 64 → x + 1 < 2 ^ 64
-last_fits n x h k = omega arith
 
 -- ---- the table
 
@@ -368,7 +356,7 @@ one_entry n r low s (p ∷ ps) h =
     ∙ sym (ap (λ b. if b then r ∷ [] else []) (positive (count_of (p ∷ ps) s) (counted p.species s p.count (count_of ps s) e h.2))))
     (λ (o : p.species ≢ s).
     miss s (record { species = p.species; reaction = r }) (entries_of r ps) o ∙ one_entry n r p.species s ps h.3
-    ∙ sym (ap (λ k. if nat_lt 0 k then r ∷ [] else []) (count_of_other p ps s o))) (same_or_other p.species s)
+    ∙ sym (ap (λ k. if nat_lt 0 k then r ∷ [] else []) (count_of_other p ps s o))) (cases_eq p.species s)
   where
     counted : (a b k m : ℕ) → a ≡ b → 0 < k → 0 < (if a == b then k else 0) + m
     counted a b k m e l = grind (arith, nat_tests)

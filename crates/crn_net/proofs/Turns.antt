@@ -1,5 +1,6 @@
 -- A completion turn by turn, over amounts that are written out.
 use Rattle.std.proofs.Common.{◌≡◌, ℕ, suc, Bool, true, false, List, [], ◌∷◌, ◌++◌, ◌==◌, if◌then◌else◌, refl, ◌∙◌, ap, ap₂, subst, eqb-true}
+use Rattle.std.proofs.lemmas.Bool.{and_parts}
 use Rattle.std.specs.Prelude.{ℤ, pos, negsuc, ◌&&◌}
 use Rattle.std.proofs.lemmas.List.{append-nil}
 use Rattle.crn_fraction.specs.Parts.{same_parts}
@@ -24,10 +25,6 @@ same_numbers [] (y ∷ ys) = false
 same_numbers (x ∷ xs) [] = false
 same_numbers (x ∷ xs) (y ∷ ys) = same_number x y && same_numbers xs ys
 
-both_true : (a b : Bool) → (a && b) ≡ true → (a ≡ true) × (b ≡ true)
-both_true true b h = (refl, h)
-both_true false b h = absurd (cc h)
-
 int_is : (a b : ℤ) → same_int a b ≡ true → a ≡ b
 int_is (pos a) (pos b) h = ap pos (eqb-true a b h)
 int_is (pos a) (negsuc b) h = absurd (cc h)
@@ -36,7 +33,7 @@ int_is (negsuc a) (negsuc b) h = ap negsuc (eqb-true a b h)
 
 pub number_is : (x y : ℚ) → same_number x y ≡ true → x ≡ y
 number_is x y h =
-    let k = both_true (same_int x.num y.num) (x.den == y.den) h in
+    let k = and_parts (same_int x.num y.num) (x.den == y.den) h in
     same_parts x y (int_is x.num y.num k.0) (eqb-true x.den y.den k.1)
 
 pub numbers_are : (xs ys : List ℚ) → same_numbers xs ys ≡ true → xs ≡ ys
@@ -44,7 +41,7 @@ numbers_are [] [] h = refl
 numbers_are [] (y ∷ ys) h = absurd (cc h)
 numbers_are (x ∷ xs) [] h = absurd (cc h)
 numbers_are (x ∷ xs) (y ∷ ys) h =
-    let k = both_true (same_number x y) (same_numbers xs ys) h in
+    let k = and_parts (same_number x y) (same_numbers xs ys) h in
     ap₂ (λ a bs. a ∷ bs) (number_is x y k.0) (numbers_are xs ys k.1)
 
 -- ---- the completion from c by the first r reactions has the segments us, and leads to d

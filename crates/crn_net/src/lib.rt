@@ -90,6 +90,7 @@ pub enum NetworkError {
     Context,
     #[error("reaction {index} takes nothing, or has a side that is not well formed")]
     Reaction { index: usize },
+    /// Memory ran out.
     #[error("out of memory")]
     Memory,
 }

@@ -1,8 +1,9 @@
 -- What is known where a line was read.
-use Rattle.std.proofs.Common.{◌≡◌, ℕ, zero, suc, ◌+◌, ◌<◌, ◌≤◌, Bool, true, false, cond, ◌&&◌, ◌==◌, List, [], ◌∷◌, length, drop, Option, Some, None, refl, sym, ap, subst, arith, false-eqb}
-use Rattle.std.proofs.lemmas.Bool.{ltb-true, leb-true}
+use Rattle.std.proofs.Common.{◌≡◌, ℕ, zero, suc, ◌+◌, ◌<◌, ◌≤◌, Bool, true, false, cond, ◌&&◌, ◌==◌, List, [], ◌∷◌, length, drop, Option, Some, None, sym, ap, subst, arith, false-eqb}
+use Rattle.std.proofs.lemmas.Bool.{ltb-true, leb-true, and_parts}
 use Rattle.std.specs.Prelude.{codes, nat_lt, nat_le}
 use Rattle.std.specs.Option.{option_map, option_and_then}
+use Rattle.std.proofs.lemmas.Option.{same_Some}
 use Rattle.crn_token.specs.Plain.{Plain}
 use Rattle.crn_token.specs.Words.{rest_of, begins, number_at}
 use Rattle.crn_net.specs.Network.{Part, Reaction, AreParts, IsReaction, IsEnds}
@@ -11,18 +12,14 @@ use Rattle.crn_net.specs.declared.Rails.TheVariants.{Dual, Direct}
 use Rattle.crn_net.specs.declared.Ends.{Ends}
 use Rattle.crn_net.specs.declared.Ends.TheVariants.{Pair, One}
 use Rattle.crn_net_text.specs.Grammar.{within, species_at, many, part_by, part_at, side_at, side_of, gives_of, reaction_with, reaction_of, one_of, pair_with, ends_of, is_plus, is_arrow, is_nothing}
-use Rattle.crn_token.proofs.Options.{some_alike, then_found, map_found, if_found, else_found}
-
-pub both : (x y : Bool) → (x && y) ≡ true → (x ≡ true) × (y ≡ true)
-both true y is = (refl, is)
-both false y is = let wrong : false ≡ true = is in cc
+use Rattle.crn_token.proofs.Options.{then_found, map_found, if_found, else_found}
 
 -- ---- parts and sides
 pub within_found : (low n m a : ℕ) → within low n m ≡ Some a → (low < a) × (a ≤ n) × (m ≡ a)
 within_found low n m a is =
     let (test, same) = if_found (nat_lt low m && nat_le m n) (Some m) a is in
-    let m_is : m ≡ a = some_alike m a same in
-    let (above, below) = both (nat_lt low m) (nat_le m n) test in
+    let m_is : m ≡ a = same_Some m a same in
+    let (above, below) = and_parts (nat_lt low m) (nat_le m n) test in
     (subst (λ k. low < k) m_is (ltb-true low m above), subst (λ k. k ≤ n) m_is (leb-true m n below), m_is)
 
 pub species_found : (low n a : ℕ) (ts : List Plain) → species_at low n ts ≡ Some a → (low < a) × (a ≤ n)
@@ -67,7 +64,7 @@ side_found (suc k) low n ts ps m is =
     go : ((low : ℕ) (us : List Plain) (qs : List Part) (j : ℕ) → side_at k low n us ≡ Some (qs, j) → IsSide low n qs) → (p : Part × ℕ) → IsPart low n p.0 → (b : Bool)
         → cond b (option_map {U = List Part × ℕ} (λ q. (p.0 ∷ q.0, p.1 + 1 + q.1)) (side_at k p.0.species n (drop (p.1 + 1) ts))) (Some (p.0 ∷ [], p.1)) ≡ Some (ps, m) → IsSide low n ps
     go again p part false is =
-        let same : p.0 ∷ [] ≡ ps = ap (λ q. q.0) (some_alike (p.0 ∷ [], p.1) (ps, m) is) in
+        let same : p.0 ∷ [] ≡ ps = ap (λ q. q.0) (same_Some (p.0 ∷ [], p.1) (ps, m) is) in
         subst (IsSide low n) same (omega arith, (part.0, part.1, part.2, tt))
     go again p part true is =
         let (q, here, whole) = map_found {A = List Part × ℕ} {B = List Part × ℕ} (λ q. (p.0 ∷ q.0, p.1 + 1 + q.1)) (side_at k p.0.species n (drop (p.1 + 1) ts)) (ps, m) is in
@@ -78,11 +75,11 @@ gives_found : (n : ℕ) (ts : List Plain) (ps : List Part) → gives_of n ts ≡
 gives_found n ts ps is = go (is_nothing ts) is
   where
     go : (b : Bool) → cond b (Some []) (side_of n ts) ≡ Some ps → AreParts 0 n ps
-    go true is = subst (AreParts 0 n) (some_alike [] ps is) tt
+    go true is = subst (AreParts 0 n) (same_Some [] ps is) tt
     go false is =
         let (q, here, rest) = then_found (λ q. cond (q.1 == length ts) (Some q.0) None) (side_at (length ts) 0 n ts) ps is in
         let (test, same) = if_found (q.1 == length ts) (Some q.0) ps rest in
-        subst (AreParts 0 n) (some_alike q.0 ps same) (side_found (length ts) 0 n ts q.0 q.1 here).1
+        subst (AreParts 0 n) (same_Some q.0 ps same) (side_found (length ts) 0 n ts q.0 q.1 here).1
 
 pub reaction_found : (n : ℕ) (ts : List Plain) (r : Reaction) → reaction_of n ts ≡ Some r → IsReaction n r
 reaction_found n ts r is =
@@ -109,4 +106,4 @@ ends_found Dual n ts e is =
     let (test, same) = else_found (a == b) (Some (Pair a b)) e more in
     let first = species_found 0 n a ts here in
     let second = one_found n b (drop 2 ts) there in
-    subst (IsEnds Dual n) (some_alike (Pair a b) e same) (omega (arith, first.0), first.1, second.0, second.1, false-eqb a b (sym test))
+    subst (IsEnds Dual n) (same_Some (Pair a b) e same) (omega (arith, first.0), first.1, second.0, second.1, false-eqb a b (sym test))

@@ -1,8 +1,9 @@
 -- What holds at each place to which lines lead, and that each place can end.
 use Rattle.std.proofs.Common.{◌≡◌, ℕ, zero, suc, ◌+◌, ◌<◌, ◌≤◌, Bool, true, false, cond, ◌&&◌, ◌||◌, ◌==◌, List, [], ◌∷◌, ◌++◌, length, Option, Some, None, refl, sym, ap, ◌∙◌, subst, arith, false-eqb, le-leb, lt-ltb, ne_eqb, length-append}
-use Rattle.std.proofs.lemmas.Bool.{leb-true}
+use Rattle.std.proofs.lemmas.Bool.{leb-true, and_parts, not-true, or_parts}
 use Rattle.std.specs.Prelude.{pos, codes, nat_lt, nat_le, not}
 use Rattle.std.specs.Option.{option_map, option_and_then}
+use Rattle.std.proofs.lemmas.Option.{same_Some}
 use Rattle.crn_token.specs.declared.Counted.TheVariants as counted
 use Rattle.crn_token.specs.declared.Sign.TheVariants.{Arrow}
 use Rattle.crn_token.specs.Plain.{Plain, PlainLine, PlainWord, PlainNumber, PlainSign}
@@ -23,35 +24,28 @@ use Rattle.crn_net.specs.declared.Ends.TheVariants.{Pair, One}
 use Rattle.crn_net.proofs.InputLists.{species_push, ends_push, different-append, end_different}
 use Rattle.crn_net_text.specs.Grammar.{Place, Start, Titled, Naming, Placed, Closed, Listing, least, frame, with_reaction, is_named, is_new, leaves_one, rails_of, version_of, title_with, title, sized, size, with_input, with_context, with_output, after_inputs, naming, count, listing, follow, limit, network_table, number_of, one_of, ends_of, reaction_of, most_species, most_reactions, most_inputs}
 use Rattle.crn_net_text.specs.Reading.{AreNamed, IsFramed, IsFine, AreFew, IsLow, IsKept}
-use Rattle.crn_net_text.proofs.Found.{both, ends_found, one_found, reaction_found}
-use Rattle.crn_token.proofs.Options.{some_alike, then_found, map_found, if_found, else_found}
+use Rattle.crn_net_text.proofs.Found.{ends_found, one_found, reaction_found}
+use Rattle.crn_token.proofs.Options.{then_found, map_found, if_found, else_found}
 use Rattle.crn_net_text.proofs.Left.{left_here, left}
 use Rattle.crn_net.proofs.EndsSpecies.{some_species}
 
 -- ---- names
-or_false : (x y : Bool) → (x || y) ≡ false → (x ≡ false) × (y ≡ false)
-or_false true y is = let wrong : true ≡ false = is in cc
-or_false false y is = (refl, is)
-
-not_true : (b : Bool) → not b ≡ true → b ≡ false
-not_true true is = let wrong : false ≡ true = is in cc
-not_true false is = refl
 
 named_apart : (inputs : List Ends) (x : ℕ) → is_named inputs x ≡ false → IsApart x (input_species inputs)
 named_apart [] x free = tt
 named_apart (Pair a b ∷ es) x free =
-    let (here, rest) = or_false (a == x || b == x) (is_named es x) free in
-    let (first, second) = or_false (a == x) (b == x) here in
+    let (here, rest) = or_parts (a == x || b == x) (is_named es x) free in
+    let (first, second) = or_parts (a == x) (b == x) here in
     ((λ e. false-eqb a x (sym first) (sym e)), ((λ e. false-eqb b x (sym second) (sym e)), named_apart es x rest))
 named_apart (One a ∷ es) x free =
-    let (here, rest) = or_false (a == x) (is_named es x) free in
+    let (here, rest) = or_parts (a == x) (is_named es x) free in
     ((λ e. false-eqb a x (sym here) (sym e)), named_apart es x rest)
 
 new_input : (inputs : List Ends) (e : Ends) → is_new inputs e ≡ true → AreNew (species_of e) (input_species inputs)
 new_input inputs (Pair a b) is =
-    let (first, second) = both (not (is_named inputs a)) (not (is_named inputs b)) is in
-    (named_apart inputs a (not_true (is_named inputs a) first), (named_apart inputs b (not_true (is_named inputs b) second), tt))
-new_input inputs (One a) is = (named_apart inputs a (not_true (is_named inputs a) is), tt)
+    let (first, second) = and_parts (not (is_named inputs a)) (not (is_named inputs b)) is in
+    (named_apart inputs a (not-true (is_named inputs a) first), (named_apart inputs b (not-true (is_named inputs b) second), tt))
+new_input inputs (One a) is = (named_apart inputs a (not-true (is_named inputs a) is), tt)
 
 some_least : (rails : Rails) (two : Bool) → 1 ≤ least rails two
 some_least Dual false = omega arith
@@ -83,7 +77,7 @@ after_size rails two ts t is =
     let (enough, same) = if_found (nat_le (least rails two) n) (Some (Naming rails two n [])) t more in
     let fits = leb-true (least rails two) n enough in
     let some : 1 ≤ n = omega (arith, fits, some_least rails two) in
-    subst (Leads (Titled rails two)) (some_alike (Naming rails two n []) t same) (
+    subst (Leads (Titled rails two)) (same_Some (Naming rails two n []) t same) (
       record { enough = fits; ends = tt; different = tt; leaves = none_named two n some },
       λ low none. (some, not_passed most_species counted.Species n (neither (above most_species counted.Species n) (above most_inputs counted.Inputs 0) none).0, omega arith),
     )
@@ -111,9 +105,9 @@ after_input : (rails : Rails) (two : Bool) (n : ℕ) (inputs : List Ends) (ts : 
 after_input rails two n inputs ts t named is =
     let (e, here, rest) = then_found (with_input rails two n inputs) (ends_of rails n ts) t is in
     let (test, same) = if_found (is_new inputs e && leaves_one two n (inputs ++ e ∷ [])) (Some (Naming rails two n (inputs ++ e ∷ []))) t rest in
-    let (new, leaves) = both (is_new inputs e) (leaves_one two n (inputs ++ e ∷ [])) test in
+    let (new, leaves) = and_parts (is_new inputs e) (leaves_one two n (inputs ++ e ∷ [])) test in
     let end = ends_found rails n ts e here in
-    subst (Leads (Naming rails two n inputs)) (some_alike (Naming rails two n (inputs ++ e ∷ [])) t same) (
+    subst (Leads (Naming rails two n inputs)) (same_Some (Naming rails two n (inputs ++ e ∷ [])) t same) (
       record {
         enough = named.enough;
         ends = ends_push rails n inputs e named.ends end;
@@ -130,7 +124,7 @@ after_naming rails true n inputs ts t named some is =
     let (k, here, more) = then_found (with_context rails n inputs) (one_of n (rest_of ts)) t rest in
     let (free, same) = else_found (is_named inputs k) (Some (Placed rails n inputs k)) t more in
     let (low, high) = one_found n k (rest_of ts) here in
-    subst (Leads (Naming rails true n inputs)) (some_alike (Placed rails n inputs k) t same) ((named, some, (low, high, named_apart inputs k free)), λ few none. few)
+    subst (Leads (Naming rails true n inputs)) (same_Some (Placed rails n inputs k) t same) ((named, some, (low, high, named_apart inputs k free)), λ few none. few)
 
 after_named : (rails : Rails) (two : Bool) (n : ℕ) (inputs : List Ends) (ts : List Plain) (t : Place) → AreNamed rails two n inputs → naming rails two n inputs ts ≡ Some t → Leads (Naming rails two n inputs) t
 after_named rails two n inputs ts t named is = go (begins (codes "input") ts) is

@@ -2,18 +2,15 @@
 use Rattle.std.proofs.Common.{◌≡◌, ℕ, zero, suc, ◌+◌, ◌<◌, ◌≤◌, Bool, true, false, ◌||◌, List, refl, sym, ap, ap₂, ◌∙◌, subst, ⊎_elim, arith}
 use Rattle.std.proofs.lemmas.Bool.{cases_lt}
 use Rattle.std.specs.Prelude.{not}
+use Rattle.std.proofs.Math.Bool.{or-true}
 use Rattle.crn_net.specs.declared.Ends.{Ends}
 use Rattle.crn_net_text.specs.Grammar.{is_named, some_left}
-
-or_last : (x : Bool) → (x || true) ≡ true
-or_last true = refl
-or_last false = refl
 
 pub left_here : (inputs : List Ends) (n k : ℕ) → 1 ≤ k → k ≤ n → is_named inputs k ≡ false → some_left n inputs ≡ true
 left_here inputs zero k low high free = absurd (omega arith)
 left_here inputs (suc n) k low high free =
     ⊎_elim
-    (λ less. ap (λ b. not (is_named inputs (suc n)) || b) (left_here inputs n k low (omega arith) free) ∙ or_last (not (is_named inputs (suc n))))
+    (λ less. ap (λ b. not (is_named inputs (suc n)) || b) (left_here inputs n k low (omega arith) free) ∙ or-true (not (is_named inputs (suc n))))
     (λ more. let same : k ≡ suc n = omega arith in ap (λ b. not b || some_left n inputs) (subst (λ m. is_named inputs m ≡ false) same free))
     (cases_lt k (suc n))
 

@@ -8,10 +8,9 @@ use Rattle.std.proofs.lemmas.Fmt.{decimal_digit}
 use Rattle.crn_net.specs.Network.{Part, Reaction, AreParts, numbered}
 use Rattle.crn_net.specs.declared.Part as coded
 use Rattle.crn_net.specs.Views.{natural, part_of, parts_of}
-use Rattle.crn_token.specs.Printed.{Item, Blank, spelled, printed}
+use Rattle.crn_token.specs.Printed.{Item, spelled, printed}
 use Rattle.crn_token.proofs.Joins.{spelled-append, printed-append}
-use Rattle.crn_token.specs.declared.Sign.TheVariants.{Arrow}
-use Rattle.crn_net_text.specs.NetworkText.{IsSmall, symbol, part_items, next_items, side_items, gives_items}
+use Rattle.crn_net_text.specs.NetworkText.{IsSmall, part_items, next_items, side_items, gives_items}
 
 -- a count that is not 0 as a natural number is positive
 positive : (z : ℤ) → 0 < natural z → pos 0 <ℤ z
@@ -61,10 +60,6 @@ lines_step f old front before after xs i d within so_far more =
     let next : printed (map f (take (i + 1) xs)) ≡ printed (map f (take i xs)) ++ printed (f x ∷ []) = ap printed longer ∙ printed-append (map f (take i xs)) (f x ∷ []) in
     more ∙ ap (λ l. l ++ printed (f x ∷ [])) so_far ∙ append_assoc old _ _ ∙ ap (λ l. old ++ l) (append_assoc front _ _ ∙ ap (λ l. front ++ l) (sym next))
 
--- a line, written bit by bit
-pub line_written : (old a b c : List ℕ) (items : List Item) → b ≡ a ++ spelled items → c ≡ b ++ 10 ∷ [] → c ≡ a ++ printed (items ∷ [])
-line_written old a b c items one two = two ∙ ap (λ l. l ++ 10 ∷ []) one ∙ append_assoc a (spelled items) (10 ∷ [])
-
 -- counts of a well formed side are positive
 pub counts : (low n : ℕ) (ps : List coded.Part) → AreParts low n (parts_of ps) → (k : ℕ) (d : coded.Part) → k < length ps → pos 0 <ℤ (get_or ps k d).count
 counts low n [] ok k d within = absurd (omega arith)
@@ -76,12 +71,6 @@ pub groups_written : (old a b c : List ℕ) (xs ys zs : List (List Item)) → a 
 groups_written old a b c xs ys zs one two three =
     three ∙ ap (λ l. l ++ printed zs) (two ∙ ap (λ l. l ++ printed ys) one ∙ append_assoc old (printed xs) (printed ys)) ∙ append_assoc old (printed xs ++ printed ys) (printed zs)
     ∙ ap (λ l. old ++ l) (append_assoc (printed xs) (printed ys) (printed zs) ∙ ap (λ l. printed xs ++ l) (sym (printed-append ys zs)) ∙ sym (printed-append xs (ys ++ zs)))
-
--- what is taken, an arrow, what is given, and the end of the line
-pub reaction_written : (old a b c d : List ℕ) (xs ys : List Item) → a ≡ old ++ spelled xs → b ≡ a ++ codes " -> " → c ≡ b ++ spelled ys → d ≡ c ++ 10 ∷ []
-    → d ≡ old ++ (spelled (xs ++ (Blank ∷ symbol Arrow ∷ Blank ∷ ys)) ++ 10 ∷ [])
-reaction_written old a b c d xs ys one two three four =
-    four ∙ ap (λ l. l ++ 10 ∷ []) (three ∙ ap (λ l. l ++ spelled ys) (two ∙ ap (λ l. l ++ codes " -> ") one)) ∙ rw (spelled-append xs (Blank ∷ symbol Arrow ∷ Blank ∷ ys)) (simp append_assoc)
 
 -- a reaction of a list, numbered from 1
 pub numbered_next : (rs : List Reaction) (i : ℕ) → numbered rs (i + 1) ≡ get_or rs i (record { takes = []; gives = [] })

@@ -1,12 +1,11 @@
 -- What is printed of a network within the limits is lines of tokens, and reads as this network.
 use Rattle.std.proofs.Common.{◌≡◌, ℕ, ◌+◌, ◌<◌, ◌≤◌, Bool, true, false, cond, ◌==◌, List, [], ◌∷◌, ◌++◌, length, map, Option, Some, None, refl, sym, ap, subst, arith, length-append}
-use Rattle.std.proofs.lemmas.Int.{ints}
 use Rattle.std.proofs.lemmas.List.Elements.{All-head, All-tail}
 use Rattle.std.specs.Prelude.{pos, codes, All, IsTrue}
 use Rattle.crn_token.specs.declared.Sign.TheVariants.{Plus, Arrow}
 use Rattle.crn_token.specs.Plain.{Plain, PlainWord, PlainNumber, PlainSign, plain_lines}
 use Rattle.crn_token.specs.Printed.{Item, Shown, Blank, shown, IsToken, IsPrinted, ends_before, AreLines, lines_read}
-use Rattle.crn_token.proofs.PrintedLaws.{text_reads}
+use Rattle.crn_token.proofs.PrintedLaws.{text_reads, IsToken-number, AreLines-append}
 use Rattle.crn_grammar.specs.Table.{IsText, IsAnswer, Read}
 use Rattle.crn_token.specs.Plain.{line_number, end_of}
 use Rattle.crn_net.specs.Network.{Part, Reaction, Network, AreParts, IsReaction, IsNetwork, IsEnds, AreEnds, IsContext}
@@ -33,18 +32,15 @@ printed_blank [] ys p q = q
 printed_blank (Blank ∷ xs) ys p q = printed_blank xs ys p q
 printed_blank (Shown t ∷ xs) ys p q = (p.0, ends_more t xs ys p.1, printed_blank xs ys p.2 q)
 
-small : (n : ℕ) → n ≤ 9223372036854775807 → IsToken (PlainNumber (pos n))
-small n few = (omega (arith, ints), omega (arith, ints, few))
-
 species_printed : (a : ℕ) → a ≤ 9223372036854775807 → IsPrinted (species_items a)
-species_printed a few = (refl, refl, (small a few, refl, tt))
+species_printed a few = (refl, refl, (IsToken-number a few, refl, tt))
 
 part_printed : (p : Part) → p.species ≤ 9223372036854775807 → p.count ≤ 9223372036854775807 → IsPrinted (part_items p)
 part_printed p few_species few_count = go (p.count == 1)
   where
     go : (b : Bool) → IsPrinted (cond b (species_items p.species) (Shown (PlainNumber (pos p.count)) ∷ Blank ∷ species_items p.species))
     go true = species_printed p.species few_species
-    go false = (small p.count few_count, refl, species_printed p.species few_species)
+    go false = (IsToken-number p.count few_count, refl, species_printed p.species few_species)
 
 -- ---- sides and reactions
 side_printed : (low n : ℕ) (ps : List Part) → n ≤ 9223372036854775807 → AreParts low n ps → All IsSmall ps → IsPrinted (side_items ps)
@@ -56,7 +52,7 @@ side_printed low n (p ∷ q ∷ ps) few are small_counts =
     (tt, refl, side_printed p.species n (q ∷ ps) few are.3 (All-tail IsSmall p (q ∷ ps) small_counts))
 
 gives_printed : (n : ℕ) (ps : List Part) → n ≤ 9223372036854775807 → AreParts 0 n ps → All IsSmall ps → IsPrinted (gives_items ps)
-gives_printed n [] few are small_counts = (small 0 (omega arith), refl, tt)
+gives_printed n [] few are small_counts = (IsToken-number 0 (omega arith), refl, tt)
 gives_printed n (p ∷ ps) few are small_counts = side_printed 0 n (p ∷ ps) few are small_counts
 
 reaction_printed : (n : ℕ) (r : Reaction) → n ≤ 9223372036854775807 → IsReaction n r → IsSmallReaction r → IsPrinted (reaction_items r)
@@ -74,9 +70,6 @@ reaction_says r =
     )
 
 -- ---- lines
-lines_both : (xs ys : List (List Item)) → AreLines xs → AreLines ys → AreLines (xs ++ ys)
-lines_both [] ys first second = second
-lines_both (x ∷ xs) ys (is, some, more) second = (is, some, lines_both xs ys more second)
 
 reactions_are : (n : ℕ) (rs : List Reaction) → n ≤ 9223372036854775807 → EachReaction n rs → All IsSmallReaction rs → AreLines (map reaction_items rs)
 reactions_are n [] few each small_counts = tt
@@ -89,7 +82,7 @@ reactions_are n (r ∷ rs) few each small_counts = (
 ends_printed : (rails : Rails) (n : ℕ) (e : Ends) → n ≤ 9223372036854775807 → IsEnds rails n e → IsPrinted (ends_items e)
 ends_printed Dual n (One a) few is = absurd is
 ends_printed Direct n (Pair a b) few is = absurd is
-ends_printed Dual n (Pair a b) few is = (refl, refl, (small a (omega (arith, few, is.1)), refl, species_printed b (omega (arith, few, is.3))))
+ends_printed Dual n (Pair a b) few is = (refl, refl, (IsToken-number a (omega (arith, few, is.1)), refl, species_printed b (omega (arith, few, is.3))))
 ends_printed Direct n (One a) few is = species_printed a (omega (arith, few, is.1))
 
 inputs_are : (rails : Rails) (n : ℕ) (es : List Ends) → n ≤ 9223372036854775807 → AreEnds rails n es → AreLines (map input_line es)
@@ -113,25 +106,25 @@ context_is n es (Some k) few is = ((refl, refl, species_printed k (omega (arith,
 
 -- a word and a number
 count_is : (w : List ℕ) (n : ℕ) → IsToken (PlainWord w) → n ≤ 9223372036854775807 → IsPrinted (count_line w n)
-count_is w n is few = (is, refl, (small n few, refl, tt))
+count_is w n is few = (is, refl, (IsToken-number n few, refl, tt))
 
 header_are : (net : Network) → net.species ≤ 9223372036854775807 → AreLines (header_lines net)
 header_are net few = (title net.rails net.context, omega arith, (count_is (codes "species") net.species refl few, omega arith, tt))
   where
     title : (rails : Rails) (context : Option ℕ) → IsPrinted (Shown (PlainWord (codes "crn")) ∷ Blank ∷ Shown (PlainNumber (pos (version context))) ∷ Blank ∷ Shown (PlainWord (rails_word rails)) ∷ [])
-    title Dual None = (refl, refl, (small 1 (omega arith), refl, (refl, refl, tt)))
-    title Direct None = (refl, refl, (small 1 (omega arith), refl, (refl, refl, tt)))
-    title Dual (Some k) = (refl, refl, (small 2 (omega arith), refl, (refl, refl, tt)))
-    title Direct (Some k) = (refl, refl, (small 2 (omega arith), refl, (refl, refl, tt)))
+    title Dual None = (refl, refl, (IsToken-number 1 (omega arith), refl, (refl, refl, tt)))
+    title Direct None = (refl, refl, (IsToken-number 1 (omega arith), refl, (refl, refl, tt)))
+    title Dual (Some k) = (refl, refl, (IsToken-number 2 (omega arith), refl, (refl, refl, tt)))
+    title Direct (Some k) = (refl, refl, (IsToken-number 2 (omega arith), refl, (refl, refl, tt)))
 
 pub network_are : (net : Network) → IsValid net → HasSmallCounts net → AreLines (network_lines net)
 network_are net valid small_counts =
     let is = valid.network in
     let species : net.species ≤ 9223372036854775807 = omega (arith, valid.limits.few_species) in
-    lines_both (header_lines net) (ends_lines net ++ reaction_lines net) (header_are net species)
-    (lines_both (ends_lines net) (reaction_lines net)
-    (lines_both (map input_line net.inputs) (context_lines net.context ++ (output_line net.output ∷ [])) (inputs_are net.rails net.species net.inputs species is.inputs)
-    (lines_both (context_lines net.context) (output_line net.output ∷ []) (context_is net.species net.inputs net.context species is.context) (output_is net.rails net.species net.output species is.output)))
+    AreLines-append (header_lines net) (ends_lines net ++ reaction_lines net) (header_are net species)
+    (AreLines-append (ends_lines net) (reaction_lines net)
+    (AreLines-append (map input_line net.inputs) (context_lines net.context ++ (output_line net.output ∷ [])) (inputs_are net.rails net.species net.inputs species is.inputs)
+    (AreLines-append (context_lines net.context) (output_line net.output ∷ []) (context_is net.species net.inputs net.context species is.context) (output_is net.rails net.species net.output species is.output)))
     (count_is (codes "reactions") (length net.reactions) refl (omega (arith, valid.limits.few_reactions)), omega arith, reactions_are net.species net.reactions species (each_reaction net is.reactions) small_counts))
 
 -- ---- the lines as they are read

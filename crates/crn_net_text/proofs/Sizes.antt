@@ -2,6 +2,7 @@
 use Rattle.std.proofs.Common.{◌≡◌, ℕ, zero, suc, ◌+◌, ◌<◌, ◌≤◌, Bool, true, false, cond, ◌&&◌, ◌==◌, List, [], ◌∷◌, ◌++◌, length, take, Option, Some, None, refl, sym, ap, ap₂, ◌∙◌, subst, arith, length-append}
 use Rattle.std.specs.Prelude.{codes}
 use Rattle.std.specs.Option.{option_map, option_and_then}
+use Rattle.std.proofs.lemmas.Option.{same_Some}
 use Rattle.crn_token.specs.declared.Counted.TheVariants as counted
 use Rattle.crn_token.specs.Plain.{Plain, PlainLine}
 use Rattle.crn_grammar.specs.Table.{IsText, PassesNone, after}
@@ -14,7 +15,7 @@ use Rattle.crn_net.specs.declared.Rails.{Rails}
 use Rattle.crn_net.specs.declared.Ends.{Ends}
 use Rattle.crn_net_text.specs.Grammar.{Place, Start, Titled, Naming, Placed, Closed, Listing, frame, with_reaction, number_of, one_of, ends_of, is_named, is_new, leaves_one, with_input, with_context, with_output, after_inputs, naming, reaction_of, follow, limit, network_table, most_species, most_reactions, most_inputs}
 use Rattle.crn_net_text.specs.Reading.{IsFine, AreFew, IsLow}
-use Rattle.crn_token.proofs.Options.{some_alike, then_found, map_found, if_found, else_found}
+use Rattle.crn_token.proofs.Options.{then_found, map_found, if_found, else_found}
 use Rattle.crn_net_text.proofs.Kept.{leads}
 use Rattle.crn_net_text.proofs.Spelled.{whole_at}
 
@@ -37,7 +38,7 @@ input_few : (rails : Rails) (two : Bool) (n : ℕ) (inputs : List Ends) (ts : Li
 input_few rails two n inputs ts t is =
     let (e, here, rest) = then_found (with_input rails two n inputs) (ends_of rails n ts) t is in
     let (test, same) = if_found (is_new inputs e && leaves_one two n (inputs ++ e ∷ [])) (Some (Naming rails two n (inputs ++ e ∷ []))) t rest in
-    subst (λ u. IsLow u → AreFew n inputs) (some_alike (Naming rails two n (inputs ++ e ∷ [])) t same) (λ low. (low.0, low.1, omega (arith, low.2, length-append inputs (e ∷ []))))
+    subst (λ u. IsLow u → AreFew n inputs) (same_Some (Naming rails two n (inputs ++ e ∷ [])) t same) (λ low. (low.0, low.1, omega (arith, low.2, length-append inputs (e ∷ []))))
 
 later_few : (rails : Rails) (two : Bool) (n : ℕ) (inputs : List Ends) (ts : List Plain) (t : Place) → after_inputs rails two n inputs ts ≡ Some t → IsLow t → AreFew n inputs
 later_few rails false n inputs ts t is = output_few rails n inputs None ts t is
@@ -45,7 +46,7 @@ later_few rails true n inputs ts t is =
     let (test, rest) = if_found (begins (codes "context") ts) (option_and_then (with_context rails n inputs) (one_of n (rest_of ts))) t is in
     let (k, here, more) = then_found (with_context rails n inputs) (one_of n (rest_of ts)) t rest in
     let (free, same) = else_found (is_named inputs k) (Some (Placed rails n inputs k)) t more in
-    subst (λ u. IsLow u → AreFew n inputs) (some_alike (Placed rails n inputs k) t same) (λ low. low)
+    subst (λ u. IsLow u → AreFew n inputs) (same_Some (Placed rails n inputs k) t same) (λ low. low)
 
 named_few : (rails : Rails) (two : Bool) (n : ℕ) (inputs : List Ends) (ts : List Plain) (t : Place) → naming rails two n inputs ts ≡ Some t → IsLow t → AreFew n inputs
 named_few rails two n inputs ts t is = go (begins (codes "input") ts) is
@@ -71,15 +72,15 @@ from_low (Listing (suc m) net) t ts is low =
     (small.0, omega (arith, small.1, length-append net.reactions (r ∷ [])))
 
 lines_from_low : (s t : Place) (lines : List PlainLine) → after network_table s lines ≡ Some t → IsLow t → IsLow s
-lines_from_low s t [] there low = subst IsLow (sym (some_alike s t there)) low
+lines_from_low s t [] there low = subst IsLow (sym (same_Some s t there)) low
 lines_from_low s t (line ∷ lines) there low =
     let (u, here, rest) = then_found (λ v. after network_table v lines) (follow s (says line)) t there in
     from_low s u (says line) here (lines_from_low u t lines rest low)
 
 -- each place on the way to a small one is small
 low_before : (s t u : Place) (lines : List PlainLine) (n : ℕ) → after network_table s lines ≡ Some t → IsLow t → after network_table s (take n lines) ≡ Some u → IsLow u
-low_before s t u lines zero there low is = subst IsLow (some_alike s u is) (lines_from_low s t lines there low)
-low_before s t u [] (suc n) there low is = subst IsLow (some_alike s u is) (lines_from_low s t [] there low)
+low_before s t u lines zero there low is = subst IsLow (same_Some s u is) (lines_from_low s t lines there low)
+low_before s t u [] (suc n) there low is = subst IsLow (same_Some s u is) (lines_from_low s t [] there low)
 low_before s t u (line ∷ lines) (suc n) there low is =
     let (v, here, rest) = then_found (λ v. after network_table v lines) (follow s (says line)) t there in
     let onward : after network_table v (take n lines) ≡ Some u = ap (option_and_then (λ w. after network_table w (take n lines))) (sym here) ∙ is in
@@ -90,7 +91,7 @@ abbrev PassNone : Place → List PlainLine → Type 0
 PassNone s lines = (n : ℕ) (u : Place) → 0 < n → n ≤ length lines → after network_table s (take n lines) ≡ Some u → limit u ≡ None
 
 to_low : (s t : Place) (lines : List PlainLine) → IsFine s → IsLow s → after network_table s lines ≡ Some t → PassNone s lines → IsLow t
-to_low s t [] fine low there none = subst IsLow (some_alike s t there) low
+to_low s t [] fine low there none = subst IsLow (same_Some s t there) low
 to_low s t (line ∷ lines) fine low there none =
     let (v, here, rest) = then_found (λ v. after network_table v lines) (follow s (says line)) t there in
     let (fine_v, low_v) = leads s v (says line) fine here in
@@ -118,7 +119,7 @@ text_small lines net (s, there, is) none =
     }
   where
     lines_lead : (s t : Place) (lines : List PlainLine) → IsFine s → after network_table s lines ≡ Some t → IsFine t
-    lines_lead s t [] fine there = subst IsFine (some_alike s t there) fine
+    lines_lead s t [] fine there = subst IsFine (same_Some s t there) fine
     lines_lead s t (line ∷ lines) fine there =
         let (v, here, rest) = then_found (λ v. after network_table v lines) (follow s (says line)) t there in
         lines_lead v t lines (leads s v (says line) fine here).0 rest

@@ -5,6 +5,7 @@ use Rattle.std.proofs.lemmas.List.{map-append}
 use Rattle.std.proofs.lemmas.Slice.Eq.{bytes_eq-Decides}
 use Rattle.std.specs.Prelude.{pos, codes, nat_lt, nat_le}
 use Rattle.std.specs.Option.{option_map, option_and_then}
+use Rattle.std.proofs.lemmas.Option.{same_Some}
 use Rattle.crn_token.specs.declared.Sign.TheVariants.{Plus, Arrow}
 use Rattle.crn_token.specs.Plain.{Plain, PlainLine, PlainWord, PlainNumber, PlainSign}
 use Rattle.crn_token.specs.Printed.{Item, Blank, shown}
@@ -19,7 +20,7 @@ use Rattle.crn_net_text.specs.NetworkText.{word, number, symbol, rails_word, sid
 use Rattle.crn_net_text.specs.Grammar.{Say, IsNetworkText, Place, Start, Titled, Naming, Placed, Closed, Listing, least, frame, with_reaction, number_of, is_plus, is_arrow, is_nothing, within, species_at, many, part_by, part_at, side_at, side_of, gives_of, reaction_with, reaction_of, one_of, pair_with, ends_of, is_named, is_new, leaves_one, rails_of, version_of, title_with, title, sized, size, with_input, with_context, with_output, after_inputs, naming, count, listing, follow, whole, network_table}
 use Rattle.crn_net_text.specs.Reading.{IsFine}
 use Rattle.crn_net_text.proofs.Found.{within_found, next_side}
-use Rattle.crn_token.proofs.Options.{some_alike, then_found, map_found, if_found, else_found}
+use Rattle.crn_token.proofs.Options.{then_found, map_found, if_found, else_found}
 use Rattle.crn_net_text.proofs.Kept.{leads}
 use Rattle.crn_net_text.proofs.Readers.{none_read}
 use Rattle.crn_token.proofs.Joins.{shown-append}
@@ -33,11 +34,11 @@ word_found w (PlainNumber n ∷ ts) is = let wrong : false ≡ true = is in cc
 word_found w (PlainSign sign ∷ ts) is = let wrong : false ≡ true = is in cc
 
 number_found : (ts : List Plain) (n : ℕ) → number_at ts ≡ Some n → ts ≡ PlainNumber (pos n) ∷ rest_of ts
-number_found (PlainNumber (pos m) ∷ ts) n is = ap (λ k. PlainNumber (pos k) ∷ ts) (some_alike m n is)
+number_found (PlainNumber (pos m) ∷ ts) n is = ap (λ k. PlainNumber (pos k) ∷ ts) (same_Some m n is)
 number_found ts n is = let wrong : None ≡ Some n = is in cc
 
 number_alone : (ts : List Plain) (n : ℕ) → number_of ts ≡ Some n → ts ≡ PlainNumber (pos n) ∷ []
-number_alone (PlainNumber (pos m) ∷ []) n is = ap (λ k. PlainNumber (pos k) ∷ []) (some_alike m n is)
+number_alone (PlainNumber (pos m) ∷ []) n is = ap (λ k. PlainNumber (pos k) ∷ []) (same_Some m n is)
 number_alone ts n is = let wrong : None ≡ Some n = is in cc
 
 plus_found : (ts : List Plain) → is_plus ts ≡ true → ts ≡ PlainSign Plus ∷ rest_of ts
@@ -122,7 +123,7 @@ side_spelled (suc k) low n ts ps m is =
     go : ((low : ℕ) (us : List Plain) (qs : List Part) (j : ℕ) → side_at k low n us ≡ Some (qs, j) → Sided us qs j) → (p : Part × ℕ) → Parted ts p.0 p.1 → (b : Bool) → is_plus (drop p.1 ts) ≡ b
         → cond b (option_map {U = List Part × ℕ} (λ q. (p.0 ∷ q.0, p.1 + 1 + q.1)) (side_at k p.0.species n (drop (p.1 + 1) ts))) (Some (p.0 ∷ [], p.1)) ≡ Some (ps, m) → Sided ts ps m
     go again p part false stop is =
-        let same = some_alike (p.0 ∷ [], p.1) (ps, m) is in
+        let same = same_Some (p.0 ∷ [], p.1) (ps, m) is in
         record { first = p.0; others = []; more = part.more; parts = sym (ap (λ q. q.0) same); tokens = part.tokens; size = sym (ap (λ q. q.1) same) ∙ part.size }
     go again p part true plus is =
         let (q, here, whole) = map_found {A = List Part × ℕ} {B = List Part × ℕ} (λ q. (p.0 ∷ q.0, p.1 + 1 + q.1)) (side_at k p.0.species n (drop (p.1 + 1) ts)) (ps, m) is in
@@ -144,7 +145,7 @@ side_alone n ts ps is =
     let side = side_spelled (length ts) 0 n ts q.0 q.1 here in
     let all : q.1 ≡ length ts = eqb-true q.1 (length ts) test in
     let none : side.more ≡ [] = none_more (side_size side.first side.others) side.more (sym (side_long side.first side.others side.more) ∙ ap length (sym side.tokens) ∙ sym all ∙ side.size) in
-    let is_side : ps ≡ side.first ∷ side.others = sym (some_alike q.0 ps same) ∙ side.parts in
+    let is_side : ps ≡ side.first ∷ side.others = sym (same_Some q.0 ps same) ∙ side.parts in
     side.tokens ∙ ap (side_tokens side.first side.others) none ∙ sym (side_shown side.first side.others []) ∙ append-nil (shown (side_items (side.first ∷ side.others)))
     ∙ ap (λ l. shown (gives_items l)) (sym is_side)
 
@@ -152,7 +153,7 @@ gives_spelled : (n : ℕ) (ts : List Plain) (ps : List Part) → gives_of n ts �
 gives_spelled n ts ps is = go (is_nothing ts) refl is
   where
     go : (b : Bool) → is_nothing ts ≡ b → cond b (Some []) (side_of n ts) ≡ Some ps → ts ≡ shown (gives_items ps)
-    go true none there = nothing_found ts none ∙ ap (λ l. shown (gives_items l)) (some_alike [] ps there)
+    go true none there = nothing_found ts none ∙ ap (λ l. shown (gives_items l)) (same_Some [] ps there)
     go false some there = side_alone n ts ps there
 
 reaction_spelled : (n : ℕ) (ts : List Plain) (r : Reaction) → reaction_of n ts ≡ Some r → ts ≡ shown (reaction_items r)
@@ -188,7 +189,7 @@ ends_spelled Dual n ts e is =
     let (test, same) = else_found (a == b) (Some (Pair a b)) e more in
     let (us, tokens) = species_spelled 0 n a ts here in
     let left : us ≡ species_tokens b [] = ap (drop 2) (sym tokens) ∙ one_spelled n b (drop 2 ts) there in
-    tokens ∙ ap (species_tokens a) left ∙ ap (λ x. shown (ends_items x)) (some_alike (Pair a b) e same)
+    tokens ∙ ap (species_tokens a) left ∙ ap (λ x. shown (ends_items x)) (same_Some (Pair a b) e same)
 
 -- ---- what was printed up to a place
 abbrev title_line : Rails → Bool → List Item
@@ -221,19 +222,19 @@ rails_found ts r is =
         first ∙ ap (λ us. PlainWord w ∷ us) (none_more 1 (rest_of ts) (omega (arith, ap length first, one)))
 
     go : length ts ≡ 1 → (b : Bool) → begins (codes "dual") ts ≡ b → cond b (Some Dual) (cond (begins (codes "direct") ts) (Some Direct) None) ≡ Some r → ts ≡ PlainWord (rails_word r) ∷ []
-    go one true begin there = alone (codes "dual") one begin ∙ ap (λ x. PlainWord (rails_word x) ∷ []) (some_alike Dual r there)
+    go one true begin there = alone (codes "dual") one begin ∙ ap (λ x. PlainWord (rails_word x) ∷ []) (same_Some Dual r there)
     go one false begin there =
         let (test, same) = if_found (begins (codes "direct") ts) (Some Direct) r there in
-        alone (codes "direct") one test ∙ ap (λ x. PlainWord (rails_word x) ∷ []) (some_alike Direct r same)
+        alone (codes "direct") one test ∙ ap (λ x. PlainWord (rails_word x) ∷ []) (same_Some Direct r same)
 
 version_found : (n : ℕ) (two : Bool) → version_of n ≡ Some two → n ≡ cond two 2 1
 version_found n two is = go (n == 1) refl is
   where
     go : (b : Bool) → n == 1 ≡ b → cond b (Some false) (cond (n == 2) (Some true) None) ≡ Some two → n ≡ cond two 2 1
-    go true e there = eqb-true n 1 e ∙ ap (λ t. cond t 2 1) (some_alike false two there)
+    go true e there = eqb-true n 1 e ∙ ap (λ t. cond t 2 1) (same_Some false two there)
     go false e there =
         let (test, same) = if_found (n == 2) (Some true) two there in
-        eqb-true n 2 test ∙ ap (λ t. cond t 2 1) (some_alike true two same)
+        eqb-true n 2 test ∙ ap (λ t. cond t 2 1) (same_Some true two same)
 
 adds_title : (ts : List Plain) (t : Place) → title ts ≡ Some t → Adds Start ts t
 adds_title ts t is =
@@ -254,7 +255,7 @@ adds_size rails two ts t is =
     let (test, rest) = if_found (begins (codes "species") ts) (option_and_then (sized rails two) (number_of (rest_of ts))) t is in
     let (n, here, more) = then_found (sized rails two) (number_of (rest_of ts)) t rest in
     let (enough, same) = if_found (nat_le (least rails two) n) (Some (Naming rails two n [])) t more in
-    subst (Adds (Titled rails two) ts) (some_alike (Naming rails two n []) t same) (
+    subst (Adds (Titled rails two) ts) (same_Some (Naming rails two n []) t same) (
       count_line (codes "species") n,
       word_found (codes "species") ts test ∙ ap (λ us. PlainWord (codes "species") ∷ us) (number_alone (rest_of ts) n here),
       refl,
@@ -278,7 +279,7 @@ adds_input : (rails : Rails) (two : Bool) (n : ℕ) (inputs : List Ends) (ts : L
 adds_input rails two n inputs ts t begin is =
     let (e, here, rest) = then_found (with_input rails two n inputs) (ends_of rails n (rest_of ts)) t is in
     let (test, same) = if_found (is_new inputs e && leaves_one two n (inputs ++ e ∷ [])) (Some (Naming rails two n (inputs ++ e ∷ []))) t rest in
-    subst (Adds (Naming rails two n inputs) ts) (some_alike (Naming rails two n (inputs ++ e ∷ [])) t same) (
+    subst (Adds (Naming rails two n inputs) ts) (same_Some (Naming rails two n (inputs ++ e ∷ [])) t same) (
       input_line e,
       word_found (codes "input") ts begin ∙ ap (λ us. PlainWord (codes "input") ∷ us) (ends_spelled rails n (rest_of ts) e here),
       ap (λ l. title_line rails two ∷ count_line (codes "species") n ∷ l) (map-append input_line inputs (e ∷ [])),
@@ -290,7 +291,7 @@ adds_later rails true n inputs ts t is =
     let (test, rest) = if_found (begins (codes "context") ts) (option_and_then (with_context rails n inputs) (one_of n (rest_of ts))) t is in
     let (k, here, more) = then_found (with_context rails n inputs) (one_of n (rest_of ts)) t rest in
     let (free, same) = else_found (is_named inputs k) (Some (Placed rails n inputs k)) t more in
-    subst (Adds (Naming rails true n inputs) ts) (some_alike (Placed rails n inputs k) t same) (
+    subst (Adds (Naming rails true n inputs) ts) (same_Some (Placed rails n inputs k) t same) (
       word (codes "context") ∷ Blank ∷ word (codes "S") ∷ number k ∷ [],
       word_found (codes "context") ts test ∙ ap (λ us. PlainWord (codes "context") ∷ us) (one_spelled n k (rest_of ts) here),
       refl,
@@ -364,7 +365,7 @@ Written s lines t = (texts : List (List Item)) × Say lines texts × (place_line
 
 lines_written : (s t : Place) (lines : List PlainLine) → IsFine s → after network_table s lines ≡ Some t → Written s lines t
 lines_written s t [] fine there =
-    let same : s ≡ t = some_alike s t there in
+    let same : s ≡ t = same_Some s t there in
     subst (Written s []) same ([], tt, sym (append-nil (place_lines s)), fine)
 lines_written s t (line ∷ lines) fine there =
     let (u, here, rest) = then_found (λ v. after network_table v lines) (follow s (says line)) t there in
@@ -378,7 +379,7 @@ lines_written s t (line ∷ lines) fine there =
     )
 
 pub whole_at : (s : Place) (net : Network) → whole s ≡ Some net → s ≡ Listing 0 net
-whole_at (Listing zero found) net is = ap (λ x. Listing 0 x) (some_alike found net is)
+whole_at (Listing zero found) net is = ap (λ x. Listing 0 x) (same_Some found net is)
 whole_at s net is = let wrong : None ≡ Some net = is in cc
 
 pub text_is_printed : (lines : List PlainLine) (net : Network) → IsText network_table lines net → IsNetworkText lines net

@@ -63,10 +63,7 @@ fn read_part(alloc: Global, bytes: &[u8], lines: &Lines) -> Result<(Network, usi
         if place.is_whole() {
             return part_up_to(alloc, place, line.number, index);
         }
-        match place.after(alloc, bytes, line.number, tokens_of(line)) {
-            Ok(next) => place = next,
-            Err(error) => return Err(error),
-        }
+        place = place.after(alloc, bytes, line.number, tokens_of(line))?;
     }
     part_up_to(alloc, place, lines.count + 1, lines.lines.len())
 }
@@ -82,10 +79,8 @@ fn part_up_to(
     ensures answer { (lines : List PlainLine) → GivesPart (λ n. n) lines result (part_end network_table number (place_of place) (drop index lines)) }
     ensures next { IfOk result (λ r. r.1 ≡ index) }
 {
-    match place.network(alloc, number) {
-        Ok(network) => Ok((network, index)),
-        Err(error) => Err(error),
-    }
+    let network = place.network(alloc, number)?;
+    Ok((network, index))
 }
 
 /// The network of a text.
@@ -107,17 +102,12 @@ fn read_text(alloc: Global, bytes: &[u8]) -> Result<Network, NetTextError>
     ensures { Gives (λ n. n) result (network_answer bytes.now) }
 {
     let lines = token_lines(alloc, bytes)?;
-    match read_network_lines(alloc, bytes, &lines) {
-        Ok((network, next)) => {
-            if next < lines.lines.len() {
-                let line = lines.lines[next].number;
-                Err(NetTextError::Malformed { line })
-            } else {
-                Ok(network)
-            }
-        }
-        Err(error) => Err(error),
+    let (network, next) = read_network_lines(alloc, bytes, &lines)?;
+    if next < lines.lines.len() {
+        let line = lines.lines[next].number;
+        return Err(NetTextError::Malformed { line });
     }
+    Ok(network)
 }
 
 #[cfg(test)]

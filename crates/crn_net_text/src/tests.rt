@@ -30,10 +30,8 @@ fn limit(what: Counted, count: u64) -> Result<u32, NetTextError> {
 
 // How many reactions the network has, or why none was read.
 fn read(alloc: Global, text: &[u8]) -> Result<u32, NetTextError> {
-    match read_network(alloc, text) {
-        Ok(network) => Ok(network.reaction_count()),
-        Err(error) => Err(error),
-    }
+    let network = read_network(alloc, text)?;
+    Ok(network.reaction_count())
 }
 
 #[test]

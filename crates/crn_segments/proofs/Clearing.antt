@@ -4,14 +4,15 @@ use Rattle.std.proofs.lemmas.List.{length-set}
 use Rattle.std.proofs.lemmas.List.Elements.{Contains-append_left, Contains-push}
 use Rattle.std.specs.List.{Contains}
 use Rattle.std.specs.Vec.{vec_capacity}
+use Rattle.std.proofs.lemmas.Bool.{cases_eq}
 use Rattle.crn_fraction.specs.Rational.{ℚ, 0ℚ, ◌≤ℚ◌}
 use Rattle.crn_net.specs.Network.{amount}
-use Rattle.crn_segments.specs.Sums.{mark_of, sum_in, sum_at, by_mark, RoomOf, IsRoom}
+use Rattle.crn_segments.specs.Sums.{mark_of, sum_in, sum_at, by_mark, RoomOf}
 use Rattle.crn_segments.specs.declared.work.Mark.{Mark}
 use Rattle.crn_segments.specs.declared.work.Mark.TheVariants.{Untouched, Fits, TooBig}
 use Rattle.crn_segments.specs.declared.work.Sums.{Sums}
 use Rattle.crn_segments.proofs.Amounts.{amount-set_same, amount-set_other}
-use Rattle.crn_segments.proofs.Marks.{mark_of-set_same, mark_of-set_other, same_or_other, cleared_listed, none_marked, ready_room}
+use Rattle.crn_segments.proofs.Marks.{mark_of-set_same, mark_of-set_other, cleared_listed, none_marked, ready_room}
 
 -- the marked species are listed still
 pub record ClearingOf (n room : ℕ) (ms : List Mark) (xs : List ℚ) (ts : List ℕ) : Type 0 where
@@ -23,9 +24,6 @@ pub record ClearingOf (n room : ℕ) (ms : List Mark) (xs : List ℚ) (ts : List
 
 abbrev pub Clearing : ℕ → Sums → Type 0
 Clearing n k = ClearingOf n (vec_capacity k.touched) k.marks.items k.next.items k.touched.items
-
-pub clearing_starts : (n room : ℕ) (ms : List Mark) (xs : List ℚ) (ts : List ℕ) → RoomOf n room ms xs ts → ClearingOf n room ms xs ts
-clearing_starts n room ms xs ts h = record { marks = h.marks; sums = h.sums; in_range = h.in_range; listed = h.listed; enough = h.enough }
 
 pub last_in_range : (n room : ℕ) (ms : List Mark) (xs : List ℚ) (ts ns : List ℕ) (s : ℕ) → ClearingOf n room ms xs ts → ts ≡ ns ++ s ∷ [] → (1 ≤ s) × (s ≤ n)
 last_in_range n room ms xs ts ns s h e = h.in_range s (subst (λ us. Contains us s) (sym e) (Contains-push ns s))
@@ -57,7 +55,7 @@ settled ms xs d s j low inside long e =
     (ap (λ m. by_mark m (amount xs s) (amount d s)) e
     ∙ sym (ap (λ m. by_mark m (amount xs s) (amount (set d (s - 1) (amount xs s)) s)) (mark_of-set_same ms s Untouched low inside) ∙ ap Some (amount-set_same d s (amount xs s) low long))))
     (λ (k : j ≢ s). sym (ap₂ (λ m x. by_mark m (amount xs j) x) (mark_of-set_other ms s j Untouched low k) (amount-set_other d s j (amount xs s) low k)))
-    (same_or_other j s)
+    (cases_eq j s)
 
 pub unsettled : (ms : List Mark) (xs d : List ℚ) (s j : ℕ) (b : ℚ) → 1 ≤ s → s ≤ length ms → mark_of ms s ≢ Fits → sum_at ms xs d s ≡ Some b → sum_at ms xs d j ≡ sum_at (set ms (s - 1) Untouched) xs d j
 unsettled ms xs d s j b low inside h some =
@@ -65,7 +63,7 @@ unsettled ms xs d s j b low inside h some =
     (ap (λ m. by_mark m (amount xs s) (amount d s)) (free_mark (mark_of ms s) (amount xs s) (amount d s) b h some)
     ∙ sym (ap (λ m. by_mark m (amount xs s) (amount d s)) (mark_of-set_same ms s Untouched low inside))))
     (λ (k : j ≢ s). sym (ap (λ m. by_mark m (amount xs j) (amount d j)) (mark_of-set_other ms s j Untouched low k)))
-    (same_or_other j s)
+    (cases_eq j s)
   where
     free_mark : (m : Mark) (x a y : ℚ) → m ≢ Fits → by_mark m x a ≡ Some y → m ≡ Untouched
     free_mark Untouched x a y h k = refl
@@ -101,14 +99,6 @@ module _ (old : Sums) (c : List ℚ) (now : Sums) (d : List ℚ) (ns : List ℕ)
 
   pub settle_other : mark_of now.marks.items s ≢ Fits → (b : ℚ) × (sum_in old c s ≡ Some b) × (0ℚ ≤ℚ b) → (j : ℕ) → sum_in old c j ≡ sum_at (set now.marks.items (s - 1) Untouched) now.next.items d j
   settle_other e k j = w.same j ∙ unsettled now.marks.items now.next.items d s j k.0 settling_range.0 inside e (sym (w.same s) ∙ k.1)
-
-pub settling_starts : (old : Sums) (c : List ℚ) → IsRoom (length c) old → Settling old c old c
-settling_starts old c h = record { clearing = clearing_starts _ _ _ _ _ h; long = refl; same = λ s. refl }
-
--- with no mark left, the sums are the amounts
-pub settling_ends : (old : Sums) (c : List ℚ) (now : Sums) (d : List ℚ) (ts : List ℕ) → Settling old c now d → now.touched.items ≡ ts → ts ≡ [] → (j : ℕ) → sum_in old c j ≡ Some (amount d j)
-settling_ends old c now d ts w h e j =
-    w.same j ∙ ap (λ m. by_mark m (amount now.next.items j) (amount d j)) (none_marked now.marks.items now.touched.items (h ∙ e) w.clearing.listed j)
 
 pub nothing_left : {n : ℕ} (ts : List ℕ) → n ≡ length ts → n ≡ 0 → ts ≡ []
 nothing_left [] e h = refl

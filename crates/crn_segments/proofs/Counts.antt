@@ -1,15 +1,16 @@
 -- Counting along the parts of a side, for species that ascend.
 use Rattle.std.proofs.Common.{◌≡◌, ◌≢◌, ℕ, zero, suc, ◌+◌, ◌<◌, ◌≤◌, List, [], ◌∷◌, length, drop, refl, sym, ◌∙◌, ap, subst, arith}
-use Rattle.std.proofs.lemmas.List.{drop_all, get_or_default}
+use Rattle.std.proofs.lemmas.List.{get_or_default}
 use Rattle.std.specs.Prelude.{ℤ, pos, negsuc}
 use Rattle.crn_net.proofs.Shape.{count_of_other, count_of_same}
 use Rattle.crn_net.specs.Network as Plain
 use Rattle.crn_net.specs.Network.{AreParts, count_of}
 use Rattle.crn_net.specs.Views.{natural, part_of, parts_of}
 use Rattle.crn_net.specs.declared.Part.{Part}
+use Rattle.crn_net.proofs.Sides.{read}
 use Rattle.crn_segments.specs.Step.{IsSide}
 use Rattle.crn_segments.proofs.Refusals.{part_in_range}
-use Rattle.crn_segments.proofs.SideWalk.{read, left_is, none_left}
+use Rattle.crn_segments.proofs.SideWalk.{left_is, none_left}
 
 lower : (low n : ℕ) (ps : List Plain.Part) → AreParts low n ps → AreParts 0 n ps
 lower low n [] h = tt
@@ -19,9 +20,6 @@ lower low n (p ∷ ps) h = let above : low < p.species = h.0 in (omega arith, h.
 pub record Passed (ps : List Part) (old now s : ℕ) : Type 0 where
   pub side : IsSide (parts_of (drop now ps))
   pub same : (t : ℕ) → s ≤ t → count_of (parts_of (drop now ps)) t ≡ count_of (parts_of (drop old ps)) t
-
-pub passed_none : (ps : List Part) (i s : ℕ) → IsSide (parts_of (drop i ps)) → Passed ps i i s
-passed_none ps i s h = record { side = h; same = λ t k. refl }
 
 positive_natural : (z : ℤ) → 0 < natural z → z ≡ pos (natural z)
 positive_natural (pos n) h = refl
@@ -50,9 +48,6 @@ module _ (ps : List Part) (old now s : ℕ) (l : now < length ps) (e : Passed ps
   passed_over above =
       ap pos (sym (none_left s e.side.0 (part_of (read ps now) ∷ parts_of (drop (now + 1) ps)) (above, side.1, side.2, side.3)) ∙ so_far s (omega arith))
 
-pub passed_all : (ps : List Part) (old now s : ℕ) → length ps ≤ now → Passed ps old now s → pos 0 ≡ pos (count_of (parts_of (drop old ps)) s)
-passed_all ps old now s l e = ap pos (sym (ap (λ xs. count_of (parts_of xs) s) (drop_all now ps l)) ∙ e.same s (omega arith))
-
 -- ---- for the species of parts in turn
 
 ascends : (low n : ℕ) (ps : List Part) (i j : ℕ) → AreParts low n (parts_of ps) → i < j → j < length ps → (read ps i).species < (read ps j).species
@@ -67,9 +62,6 @@ ascends low n (q ∷ ps) (suc i) (suc j) h l k = ascends q.species n ps i j h.3 
 pub record IsAhead (ps qs : List Part) (from i : ℕ) : Type 0 where
   pub rest : IsSide (parts_of (drop from qs))
   pub same : (j : ℕ) → i ≤ j → j < length ps → count_of (parts_of (drop from qs)) (read ps j).species ≡ count_of (parts_of qs) (read ps j).species
-
-pub ahead_none : (ps qs : List Part) → IsSide (parts_of qs) → IsAhead ps qs 0 0
-ahead_none ps qs h = record { rest = h; same = λ j l k. refl }
 
 pub ahead_stays : (ps qs : List Part) (from i : ℕ) → IsAhead ps qs from i → IsAhead ps qs from (i + 1)
 ahead_stays ps qs from i a = record { rest = a.rest; same = λ j l k. a.same j (omega arith) k }

@@ -1,5 +1,6 @@
 -- Tests that a step and a completion fit, and what they say.
-use Rattle.std.proofs.Common.{◌≡◌, ℕ, zero, suc, ◌<◌, ◌≤◌, Bool, true, false, List, [], ◌∷◌, nat_lt, refl, sym, ◌∙◌, ap, subst, ⊎_elim, arith, lt-ltb, eq-or-lt_of_le}
+use Rattle.std.proofs.Common.{◌≡◌, ℕ, zero, suc, ◌<◌, ◌≤◌, Bool, true, List, [], ◌∷◌, nat_lt, sym, ◌∙◌, ap, subst, ⊎_elim, arith, lt-ltb, eq-or-lt_of_le}
+use Rattle.std.proofs.lemmas.Bool.{and_parts}
 use Rattle.std.specs.Prelude.{pos, ◌&&◌, if◌then◌else◌}
 use Rattle.crn_fraction.specs.Frac.{IsFrac}
 use Rattle.crn_fraction.specs.Rational.{ℚ, ◌+ℚ◌, ◌*ℚ◌, ◌/ℚ◌, whole}
@@ -11,10 +12,6 @@ use Rattle.crn_segments.proofs.SignLaws.{is_frac_cases}
 use Rattle.crn_segments.specs.Signs.{is_frac}
 use Rattle.crn_segments.specs.Fits.{SumFits, StepFits, TurnFits, flows_with}
 
-both_true : (a b : Bool) → (a && b) ≡ true → (a ≡ true) × (b ≡ true)
-both_true true b h = (refl, h)
-both_true false b h = absurd (cc h)
-
 frac_holds : (a : ℚ) → is_frac a ≡ true → IsFrac a
 frac_holds a h = ⊎_elim (λ k. k.1) (λ k. absurd (cc (k.0, h))) (is_frac_cases a)
 
@@ -25,8 +22,8 @@ sum_fits k a (f ∷ fs) = is_frac (k f.reaction *ℚ f.flux) && (is_frac (a +ℚ
 sum_is : (k : ℕ → ℚ) (a : ℚ) (u : List Flow) → sum_fits k a u ≡ true → SumFits k a u
 sum_is k a [] h = tt
 sum_is k a (f ∷ fs) h =
-    let x = both_true (is_frac (k f.reaction *ℚ f.flux)) _ h in
-    let y = both_true (is_frac (a +ℚ k f.reaction *ℚ f.flux)) _ x.1 in
+    let x = and_parts (is_frac (k f.reaction *ℚ f.flux)) _ h in
+    let y = and_parts (is_frac (a +ℚ k f.reaction *ℚ f.flux)) _ x.1 in
     (frac_holds _ x.0, frac_holds _ y.0, sum_is k (a +ℚ k f.reaction *ℚ f.flux) fs y.1)
 
 -- the test holds from 1 to n
@@ -37,7 +34,7 @@ each_to t (suc n) = t (suc n) && each_to t n
 each_is : (t : ℕ → Bool) (n s : ℕ) → each_to t n ≡ true → 1 ≤ s → s ≤ n → t s ≡ true
 each_is t zero s h low high = absurd (omega arith)
 each_is t (suc n) s h low high =
-    let k = both_true (t (suc n)) (each_to t n) h in
+    let k = and_parts (t (suc n)) (each_to t n) h in
     ⊎_elim (λ (e : s ≡ suc n). subst (λ x. t x ≡ true) (sym e) k.0) (λ (l : s < suc n). each_is t n s k.1 low (omega arith)) (eq-or-lt_of_le high)
 
 abbrev pub step_fits : Network → List ℚ → List Flow → Bool
@@ -58,7 +55,7 @@ turn_fits net r c = each_to (quotient_fits net r c) net.species && step_fits net
 
 pub turn_is : (net : Network) → AreReactions net → (r : ℕ) (c : List ℚ) → turn_fits net r c ≡ true → TurnFits net r c
 turn_is net ok r c h =
-    let k = both_true (each_to (quotient_fits net r c) net.species) (step_fits net c (alone r (greatest_flux net r (amount c)))) h in
+    let k = and_parts (each_to (quotient_fits net r c) net.species) (step_fits net c (alone r (greatest_flux net r (amount c)))) h in
     record {
       quotients = λ _ s t. let range : (1 ≤ s) × (s ≤ net.species) = taken_in_range net ok r s t in
           quotient_is net r c s t (each_is (quotient_fits net r c) net.species s k.0 range.0 range.1);

@@ -19,29 +19,6 @@ pub record LeastSoFar (n : ℕ) (k : Sums) (i t : ℕ) : Type 0 where
   pub below : (j : ℕ) → j < i → get_or k.touched.items j 0 < t → refusal_in k (get_or k.touched.items j 0) ≡ None
   pub here : t ≤ n → refusal_in k t ≢ None
 
-pub least_starts : (n : ℕ) (k : Sums) → LeastSoFar n k 0 (n + 1)
-least_starts n k = record { low = omega arith; high = omega arith; below = λ j h. absurd (omega arith); here = λ h. absurd (omega arith) }
-
--- the next one is refused, and less
-pub least_less : (n : ℕ) (k : Sums) (i t s : ℕ) → s ≡ get_or k.touched.items i 0 → 1 ≤ s → s < t → refusal_in k s ≢ None → LeastSoFar n k i t → LeastSoFar n k (i + 1) s
-least_less n k i t s e low less h l = record {
-  low = low;
-  high = omega (arith, less, l.high);
-  below = λ j a b. ⊎_elim (λ (x : j ≡ i). let y : s ≡ get_or k.touched.items j 0 = e ∙ ap (λ z. get_or k.touched.items z 0) (sym x) in absurd (omega (arith, b, y)))
-      (λ (x : j < i). l.below j x (omega (arith, b, less))) (grind arith);
-  here = λ _. h;
-}
-
--- the next one is not less, or not refused
-pub least_stays : (n : ℕ) (k : Sums) (i t s : ℕ) → s ≡ get_or k.touched.items i 0 → (s < t → refusal_in k s ≡ None) → LeastSoFar n k i t → LeastSoFar n k (i + 1) t
-least_stays n k i t s e h l = record {
-  low = l.low;
-  high = l.high;
-  below = λ j a b. ⊎_elim (λ (x : j ≡ i). let y : s ≡ get_or k.touched.items j 0 = e ∙ ap (λ z. get_or k.touched.items z 0) (sym x) in subst (λ z. refusal_in k z ≡ None) y (h (subst (λ z. z < t) (sym y) b)))
-      (λ (x : j < i). l.below j x b) (grind arith);
-  here = l.here;
-}
-
 pub least_all : (n : ℕ) (k : Sums) (i t : ℕ) → IsRoom n k → length k.touched.items ≤ i → LeastSoFar n k i t → IsLeastRefused n k t
 least_all n k i t ok all l = record {
   low = l.low;

@@ -4,6 +4,7 @@ use Rattle.std.proofs.lemmas.Bool.Decides.{nat_tests}
 use Rattle.std.proofs.lemmas.List.{get_or_read, get_or-set_same, get_or-set_other, length-set, length_push}
 use Rattle.std.proofs.lemmas.List.Elements.{Contains-append_left, Contains-append_cases, Contains-push}
 use Rattle.std.specs.List.{Contains}
+use Rattle.std.proofs.lemmas.Bool.{cases_eq}
 use Rattle.crn_fraction.specs.Rational.{ℚ, 0ℚ, ◌≤ℚ◌}
 use Rattle.crn_net.specs.Network.{amount}
 use Rattle.crn_segments.proofs.Amounts.{amount-set_same, amount-set_other}
@@ -48,9 +49,6 @@ contains_one : (s j : ℕ) → Contains (s ∷ []) j → s ≡ j
 contains_one s j (zero, l, e) = e
 contains_one s j (suc k, l, e) = absurd (omega arith)
 
-pub same_or_other : (a b : ℕ) → (a ≡ b) ⊎ (a ≢ b)
-same_or_other a b = grind arith
-
 -- ---- a species is touched
 
 module _ (n room : ℕ) (ms : List Mark) (xs : List ℚ) (ts : List ℕ) (ok : RoomOf n room ms xs ts) (s : ℕ) (low : 1 ≤ s) (high : s ≤ n) where
@@ -79,7 +77,7 @@ module _ (n room : ℕ) (ms : List Mark) (xs : List ℚ) (ts : List ℕ) (ok : R
             (λ (k : Contains (s ∷ []) j). subst (λ i. (1 ≤ i) × (i ≤ n)) (contains_one s j k) (low, high)) (Contains-append_cases ts (s ∷ []) j h);
         listed = λ j. ⊎_elim (λ (k : j ≡ s). inr (subst (Contains (ts ++ s ∷ [])) (sym k) (Contains-push ts s)))
             (λ (k : j ≢ s). ⊎_elim (λ (m : mark_of ms j ≡ Untouched). inl (mark_of-set_other ms s j Fits low k ∙ m)) (λ (m : Contains ts j). inr (Contains-append_left ts (s ∷ []) j m)) (ok.listed j))
-            (same_or_other j s);
+            (cases_eq j s);
         count = omega (arith, one, f, none, ok.count, length_push ts s);
         enough = ok.enough;
       }
@@ -90,7 +88,7 @@ module _ (n room : ℕ) (ms : List Mark) (xs : List ℚ) (ts : List ℕ) (ok : R
       (ap (λ m. by_mark m (amount (set xs (s - 1) (amount c s)) s) (amount c s)) (mark_of-set_same ms s Fits low inside)
       ∙ ap Some (amount-set_same xs s (amount c s) low inside_sums) ∙ ap (λ m. by_mark m (amount xs s) (amount c s)) (sym e)))
       (λ (k : j ≢ s). ap₂ (λ m x. by_mark m x (amount c j)) (mark_of-set_other ms s j Fits low k) (amount-set_other xs s j (amount c s) low k))
-      (same_or_other j s)
+      (cases_eq j s)
 
   -- ---- a product is added
 
@@ -111,7 +109,7 @@ module _ (n room : ℕ) (ms : List Mark) (xs : List ℚ) (ts : List ℕ) (ok : R
         in_range = ok.in_range;
         listed = λ j. ⊎_elim (λ (k : j ≡ s). inr (subst (Contains ts) (sym k) (contained (λ u. absurd (cc (u, e))))))
             (λ (k : j ≢ s). ⊎_elim (λ (m : mark_of ms j ≡ Untouched). inl (mark_of-set_other ms s j TooBig low k ∙ m)) (λ (m : Contains ts j). inr m) (ok.listed j))
-            (same_or_other j s);
+            (cases_eq j s);
         count = omega (arith, was, f, none, ok.count);
         enough = ok.enough;
       }
@@ -128,7 +126,7 @@ module _ (n room : ℕ) (ms : List Mark) (xs : List ℚ) (ts : List ℕ) (ok : R
       (ap₂ (λ m x. by_mark m x (amount c s)) e (amount-set_same xs s y low inside_sums) ∙ sym h ∙ ap (λ m. sum_with p (by_mark m (amount xs s) (amount c s))) (sym e)
       ∙ sym (where_same p (sum_at ms xs c s) s refl)))
       (λ (k : j ≢ s). ap (λ x. by_mark (mark_of ms j) x (amount c j)) (amount-set_other xs s j y low k) ∙ sym (where_other p (sum_at ms xs c j) j k))
-      (same_or_other j s)
+      (cases_eq j s)
 
   pub too_big_sums : (c : List ℚ) (p : ℚ) (j : ℕ) → mark_of ms s ≡ Fits → sum_with p (Some (amount xs s)) ≡ None → sum_at (set ms (s - 1) TooBig) xs c j ≡ sum_where (s == j) p (sum_at ms xs c j)
   too_big_sums c p j e h =
@@ -136,7 +134,7 @@ module _ (n room : ℕ) (ms : List Mark) (xs : List ℚ) (ts : List ℕ) (ok : R
       (ap (λ m. by_mark m (amount xs s) (amount c s)) (mark_of-set_same ms s TooBig low inside) ∙ sym h ∙ ap (λ m. sum_with p (by_mark m (amount xs s) (amount c s))) (sym e)
       ∙ sym (where_same p (sum_at ms xs c s) s refl)))
       (λ (k : j ≢ s). ap (λ m. by_mark m (amount xs j) (amount c j)) (mark_of-set_other ms s j TooBig low k) ∙ sym (where_other p (sum_at ms xs c j) j k))
-      (same_or_other j s)
+      (cases_eq j s)
 
   not_fits : (m : Mark) → m ≢ Untouched → m ≢ Fits → m ≡ TooBig
   not_fits Untouched h k = absurd (h refl)
@@ -149,7 +147,7 @@ module _ (n room : ℕ) (ms : List Mark) (xs : List ℚ) (ts : List ℕ) (ok : R
       ⊎_elim (λ (l : j ≡ s). subst (λ i. sum_at ms xs c i ≡ sum_where (s == i) p (sum_at ms xs c i)) (sym l)
       (ap (λ m. by_mark m (amount xs s) (amount c s)) e ∙ ap (λ m. sum_with p (by_mark m (amount xs s) (amount c s))) (sym e) ∙ sym (where_same p (sum_at ms xs c s) s refl)))
       (λ (l : j ≢ s). sym (where_other p (sum_at ms xs c j) j l))
-      (same_or_other j s)
+      (cases_eq j s)
 
 -- ---- a mark is taken away
 
@@ -158,7 +156,7 @@ cleared_listed ms s low inside ns h j =
     ⊎_elim (λ (k : j ≡ s). inl (subst (λ i. mark_of (set ms (s - 1) Untouched) i ≡ Untouched) (sym k) (mark_of-set_same ms s Untouched low inside)))
     (λ (k : j ≢ s). ⊎_elim (λ (m : mark_of ms j ≡ Untouched). inl (mark_of-set_other ms s j Untouched low k ∙ m))
     (λ (m : Contains (ns ++ s ∷ []) j). ⊎_elim (λ (a : Contains ns j). inr a) (λ (a : Contains (s ∷ []) j). absurd (k (sym (contains_one s j a)))) (Contains-append_cases ns (s ∷ []) j m)) (h j))
-    (same_or_other j s)
+    (cases_eq j s)
 
 -- ---- no mark is left
 

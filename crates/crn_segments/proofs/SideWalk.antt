@@ -1,32 +1,23 @@
 -- What a flow changes, part by part of one side of its reaction.
-use Rattle.std.proofs.Common.{◌≡◌, ◌≢◌, ℕ, ◌+◌, ◌<◌, ◌≤◌, ◌==◌, ◌&&◌, ◌||◌, not, nat_lt, Bool, true, false, List, ◌∷◌, length, get_or, drop, Option, pos, refl, sym, ◌∙◌, ap, ap₂, subst, ◌⊎◌, ⊎_elim, arith, lt-ltb}
-use Rattle.std.proofs.lemmas.Bool.Decides.{nat_tests}
-use Rattle.std.proofs.lemmas.List.{drop_more, drop_all}
+use Rattle.std.proofs.Common.{◌≡◌, ◌≢◌, ℕ, ◌+◌, ◌<◌, ◌≤◌, ◌==◌, ◌&&◌, ◌||◌, not, nat_lt, Bool, true, false, List, ◌∷◌, length, drop, Option, pos, refl, sym, ◌∙◌, ap, ap₂, subst, ⊎_elim, arith, lt-ltb}
+use Rattle.std.proofs.lemmas.List.{drop_more}
+use Rattle.std.proofs.lemmas.Bool.{cases_eq, eq-eqb, ne_eqb}
+use Rattle.std.proofs.Math.Bool.{and-false}
 use Rattle.crn_fraction.specs.Rational.{ℚ}
 use Rattle.crn_net.proofs.Shape.{count_of_other, count_of_same, count_of_in_range}
 use Rattle.crn_net.specs.Network as Plain
 use Rattle.crn_net.specs.Network.{AreParts, count_of}
 use Rattle.crn_net.specs.Views.{part_of, parts_of}
 use Rattle.crn_net.specs.declared.Part.{Part}
+use Rattle.crn_net.proofs.Sides.{read}
 use Rattle.crn_segments.specs.Sums.{IsRoom, sum_in, sum_where, gained, is_new}
 use Rattle.crn_segments.specs.declared.work.Sums.{Sums}
-
--- the part that the loop reads
-abbrev pub read : List Part → ℕ → Part
-read ps i = get_or ps i (record { species = 0; count = pos 0 })
 
 pub record SideWalk (n : ℕ) (ps : List Part) (seen : List Plain.Part) (r : Plain.Reaction) (u : ℚ) (c : List ℚ) (old now : Sums) (i : ℕ) : Type 0 where
   pub room : IsRoom n now
   pub same : (s : ℕ) → sum_where (is_new (parts_of ps) seen s) (gained r u s) (sum_in old c s) ≡ sum_where (is_new (parts_of (drop i ps)) seen s) (gained r u s) (sum_in now c s)
   pub low : ℕ
   pub side : AreParts low n (parts_of (drop i ps))
-
-and_false : (b : Bool) → (b && false) ≡ false
-and_false true = refl
-and_false false = refl
-
-same_or_other : (a b : ℕ) → (a ≡ b) ⊎ (a ≢ b)
-same_or_other a b = grind arith
 
 pub none_left : (low n : ℕ) (ps : List Plain.Part) → AreParts low n ps → count_of ps low ≡ 0
 none_left low n ps ok =
@@ -44,16 +35,10 @@ gone_here : (seen rest : List Plain.Part) (n : ℕ) (p : Plain.Part) → ArePart
 gone_here seen rest n p ok = ap (λ k. nat_lt 0 k && not (nat_lt 0 (count_of seen p.species))) (none_left p.species n rest ok)
 
 seen_here : (seen ps : List Plain.Part) (s : ℕ) → 0 < count_of seen s → is_new ps seen s ≡ false
-seen_here seen ps s some = ap (λ x. nat_lt 0 (count_of ps s) && not x) (lt-ltb 0 (count_of seen s) some) ∙ and_false _
+seen_here seen ps s some = ap (λ x. nat_lt 0 (count_of ps s) && not x) (lt-ltb 0 (count_of seen s) some) ∙ and-false _
 
 new_other : (seen rest : List Plain.Part) (p : Plain.Part) (s : ℕ) → p.species ≢ s → is_new (p ∷ rest) seen s ≡ is_new rest seen s
 new_other seen rest p s other = ap (λ k. nat_lt 0 k && not (nat_lt 0 (count_of seen s))) (count_of_other p rest s other)
-
-test_same : (a b : ℕ) → a ≡ b → (a == b) ≡ true
-test_same a b e = grind (arith, nat_tests)
-
-test_other : (a b : ℕ) → a ≢ b → (a == b) ≡ false
-test_other a b e = grind (arith, nat_tests)
 
 module _ (n : ℕ) (ps : List Part) (seen : List Plain.Part) (r : Plain.Reaction) (u : ℚ) (c : List ℚ) (old now : Sums) (i : ℕ) (l : i < length ps) (w : SideWalk n ps seen r u c old now i) where
   side : AreParts w.low n (part_of (read ps i) ∷ parts_of (drop (i + 1) ps))
@@ -71,7 +56,7 @@ module _ (n : ℕ) (ps : List Part) (seen : List Plain.Part) (r : Plain.Reaction
         let there : 0 < count_of seen s = subst (λ x. 0 < count_of seen x) e some in
         seen_here seen (part_of (read ps i) ∷ parts_of (drop (i + 1) ps)) s there ∙ sym (seen_here seen (parts_of (drop (i + 1) ps)) s there))
         (λ (e : (read ps i).species ≢ s). new_other seen (parts_of (drop (i + 1) ps)) (part_of (read ps i)) s e)
-        (same_or_other (read ps i).species s));
+        (cases_eq (read ps i).species s));
     low = (read ps i).species;
     side = side.3;
   }
@@ -83,20 +68,16 @@ module _ (n : ℕ) (ps : List Part) (seen : List Plain.Part) (r : Plain.Reaction
     same = λ s. so_far s ∙ ⊎_elim (λ (e : (read ps i).species ≡ s).
         subst (λ x. sum_where (is_new (part_of (read ps i) ∷ parts_of (drop (i + 1) ps)) seen x) (gained r u x) (sum_in now c x) ≡ sum_where (is_new (parts_of (drop (i + 1) ps)) seen x) (gained r u x) (sum_in next c x)) e
         (ap (λ b. sum_where b (gained r u (read ps i).species) (sum_in now c (read ps i).species)) (new_here seen (parts_of (drop (i + 1) ps)) w.low n (part_of (read ps i)) side none)
-        ∙ sym (adds (read ps i).species ∙ ap (λ b. sum_where b (gained r u (read ps i).species) (sum_in now c (read ps i).species)) (test_same (read ps i).species (read ps i).species refl))
+        ∙ sym (adds (read ps i).species ∙ ap (λ b. sum_where b (gained r u (read ps i).species) (sum_in now c (read ps i).species)) (eq-eqb (read ps i).species (read ps i).species refl))
         ∙ sym (ap (λ b. sum_where b (gained r u (read ps i).species) (sum_in next c (read ps i).species)) (gone_here seen (parts_of (drop (i + 1) ps)) n (part_of (read ps i)) side.3))))
         (λ (e : (read ps i).species ≢ s).
         ap (λ b. sum_where b (gained r u s) (sum_in now c s)) (new_other seen (parts_of (drop (i + 1) ps)) (part_of (read ps i)) s e)
         ∙ ap (sum_where (is_new (parts_of (drop (i + 1) ps)) seen s) (gained r u s))
-        (sym (adds s ∙ ap (λ b. sum_where b (gained r u (read ps i).species) (sum_in now c s)) (test_other (read ps i).species s e))))
-        (same_or_other (read ps i).species s);
+        (sym (adds s ∙ ap (λ b. sum_where b (gained r u (read ps i).species) (sum_in now c s)) (ne_eqb (read ps i).species s e))))
+        (cases_eq (read ps i).species s);
     low = (read ps i).species;
     side = side.3;
   }
-
-pub walk_ends : (n : ℕ) (ps : List Part) (seen : List Plain.Part) (r : Plain.Reaction) (u : ℚ) (c : List ℚ) (old now : Sums) (i : ℕ) → length ps ≤ i → SideWalk n ps seen r u c old now i →
-    (s : ℕ) → sum_in now c s ≡ sum_where (is_new (parts_of ps) seen s) (gained r u s) (sum_in old c s)
-walk_ends n ps seen r u c old now i l w s = sym (w.same s ∙ ap (λ xs. sum_where (is_new (parts_of xs) seen s) (gained r u s) (sum_in now c s)) (drop_all i ps l))
 
 pub part_in_range : (n : ℕ) (ps : List Part) (seen : List Plain.Part) (r : Plain.Reaction) (u : ℚ) (c : List ℚ) (old now : Sums) (i : ℕ) → i < length ps → SideWalk n ps seen r u c old now i →
     (1 ≤ (read ps i).species) × ((read ps i).species ≤ n)

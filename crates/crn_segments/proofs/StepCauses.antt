@@ -3,6 +3,7 @@ use Rattle.std.proofs.Common.{◌≡◌, ◌≢◌, ℕ, zero, suc, ◌+◌, ◌
 use Rattle.std.proofs.lemmas.List.Elements.{All-nil, All-cons, All-head, All-tail}
 use Rattle.std.specs.List.{All}
 use Rattle.std.specs.Option.{option_or, option_map}
+use Rattle.std.proofs.lemmas.Bool.{cases_eq}
 use Rattle.crn_fraction.proofs.Linear.{not_<ℚ}
 use Rattle.crn_fraction.specs.Rational.{ℚ, 0ℚ, ◌≤ℚ◌, ◌<ℚ◌}
 use Rattle.crn_net.proofs.Shape.{count_of_other, count_of_same, count_of_in_range}
@@ -14,7 +15,7 @@ use Rattle.crn_segments.proofs.Least.{first_in}
 use Rattle.crn_segments.proofs.Refusals.{flow_without_reaction, flow_with_reaction}
 use Rattle.crn_segments.proofs.Runs.{sum_there}
 use Rattle.crn_segments.proofs.SignLaws.{positive_is, not_positive_is, not_negative_is, negative_is, is_positive_ℚ_cases, is_negative_ℚ_cases}
-use Rattle.crn_segments.proofs.Steps.{above_or_not, flow_none, flows_exist, map_some, none_absent, or_none, or_some, present_all, same_or_other, refused_flows, refused_sums, sum_fits, sum_is_after}
+use Rattle.crn_segments.proofs.Steps.{above_or_not, flow_none, flows_exist, map_some, none_absent, or_none, or_some, present_all, refused_flows, refused_sums, sum_fits, sum_is_after}
 use Rattle.crn_segments.specs.Causes.{MayBegin, ComesTo, IsFirstAbsent, SpeciesGoes, StopsAt, IsStepCause}
 use Rattle.crn_segments.specs.Fits.{SpeciesFits, flows_with}
 use Rattle.crn_segments.specs.Flows.{IsSegment}
@@ -31,7 +32,7 @@ record AbsentAmong (m : ℕ → ℚ) (ps : List Part) (s : ℕ) : Type 0 where
   pub absent : m s ≤ℚ 0ℚ
   pub earlier : (t : ℕ) → t < s → 0 < count_of ps t → 0ℚ <ℚ m t
 
-more_counted : (p : Part) (ps : List Part) (t : ℕ) → 0 < count_of ps t → 0 < count_of (p ∷ ps) t
+pub more_counted : (p : Part) (ps : List Part) (t : ℕ) → 0 < count_of ps t → 0 < count_of (p ∷ ps) t
 more_counted p ps t h = let more : 0 < (if p.species == t then p.count else 0) + count_of ps t = omega arith in more
 
 absent_among : (low n : ℕ) (m : ℕ → ℚ) (ps : List Part) (s : ℕ) → AreParts low n ps → first_absent m ps ≡ Some s → AbsentAmong m ps s
@@ -44,7 +45,7 @@ absent_among low n m (p ∷ ps) s ok h =
       reactant = more_counted p ps s rest.reactant;
       absent = rest.absent;
       earlier = λ t less some. ⊎_elim (λ (e : p.species ≡ t). subst (λ x. 0ℚ <ℚ m x) e k.1)
-          (λ (o : p.species ≢ t). rest.earlier t less (subst (λ x. 0 < x) (count_of_other p ps t o) some)) (same_or_other p.species t);
+          (λ (o : p.species ≢ t). rest.earlier t less (subst (λ x. 0 < x) (count_of_other p ps t o) some)) (cases_eq p.species t);
     })
     (λ (k : (is_positive_ℚ (m p.species) ≡ false) × (m p.species ≤ℚ 0ℚ)).
     let this : Some p.species ≡ Some s = sym (ap either k.0) ∙ h in
@@ -70,7 +71,7 @@ among_absent low n m (p ∷ ps) s ok a =
     let here : 0ℚ <ℚ m p.species = a.earlier p.species above.0 (subst (λ x. 0 < x) (sym (count_of_same low n p ps ok)) ok.2) in
     ap either (positive_is (m p.species) here)
     ∙ among_absent p.species n m ps s ok.3 (record { reactant = some; absent = a.absent; earlier = λ t less k. a.earlier t less (more_counted p ps t k) }))
-    (same_or_other p.species s)
+    (cases_eq p.species s)
 
 -- ---- one flow
 

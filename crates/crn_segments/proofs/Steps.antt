@@ -3,12 +3,13 @@ use Rattle.std.proofs.Common.{◌≡◌, ◌≢◌, ℕ, zero, suc, ◌+◌, ◌
 use Rattle.std.proofs.lemmas.Bool.Decides.{nat_tests}
 use Rattle.std.proofs.lemmas.List.FromFn.{length-map-range_with_len}
 use Rattle.std.specs.Option.{option_or, option_map}
+use Rattle.std.proofs.lemmas.Bool.{cases_eq, le-ltb}
 use Rattle.crn_fraction.proofs.Linear.{not_<ℚ, <ℚ-≤ℚ_trans, +ℚ-≤ℚ_left, +ℚ-≤ℚ}
 use Rattle.crn_fraction.proofs.Order.{≤ℚ_refl, ≤ℚ_of_<ℚ}
 use Rattle.crn_fraction.proofs.Ring.{+ℚ-zero, zero-+ℚ, zero-*ℚ, sub_ℚ-self}
 use Rattle.crn_fraction.specs.Frac.{IsFrac}
 use Rattle.crn_fraction.specs.Rational.{ℚ, 0ℚ, whole, ◌+ℚ◌, ◌-ℚ◌, ◌*ℚ◌, ◌≤ℚ◌, ◌<ℚ◌}
-use Rattle.crn_net.proofs.Balance.{amount-outside, flux_not_negative}
+use Rattle.crn_net.proofs.Balance.{amount-outside, flux_not_negative, flux_if}
 use Rattle.crn_net.proofs.Flows.{amount-added}
 use Rattle.crn_net.proofs.Shape.{count_of_other, count_of_same}
 use Rattle.crn_net.specs.Network.{Network, Part, amount, after, numbered, taken, given, count_of, flux_of, AreFlows, AreParts, IsApplicable, IsLegal, IsNetwork}
@@ -55,9 +56,6 @@ refusal_none net c u h = or_none (flows_refusal net c u) (sums_refusal net c u) 
 
 -- ---- flows
 
-test_not_above : (n r : ℕ) → r ≤ n → nat_lt n r ≡ false
-test_not_above n r h = grind (arith, nat_tests)
-
 pub above_or_not : (n r : ℕ) → ((nat_lt n r ≡ true) × (n < r)) ⊎ ((nat_lt n r ≡ false) × (r ≤ n))
 above_or_not n r = grind (arith, nat_tests)
 
@@ -76,9 +74,6 @@ flows_exist net c low (f ∷ fs) h k =
     let first : low < f.reaction = h.0 in
     (omega arith, (flow_none net c f n.0).0, ≤ℚ_of_<ℚ _ _ h.1, flows_exist net c f.reaction fs h.2 n.1)
 
-pub same_or_other : (a b : ℕ) → (a ≡ b) ⊎ (a ≢ b)
-same_or_other a b = grind arith
-
 pub present_all : (m : ℕ → ℚ) (ps : List Part) (s : ℕ) → first_absent m ps ≡ None → 0 < count_of ps s → 0ℚ <ℚ m s
 present_all m [] s h k = absurd (omega arith)
 present_all m (p ∷ ps) s h k =
@@ -86,7 +81,7 @@ present_all m (p ∷ ps) s h k =
     ⊎_elim (λ (t : (is_positive_ℚ (m p.species) ≡ true) × (0ℚ <ℚ m p.species)).
     ⊎_elim (λ (e : p.species ≡ s). subst (λ x. 0ℚ <ℚ m x) e t.1)
     (λ (e : p.species ≢ s). present_all m ps s (sym (ap either t.0) ∙ h) (subst (λ x. 0 < x) (count_of_other p ps s e) k))
-    (same_or_other p.species s))
+    (cases_eq p.species s))
     (λ (t : (is_positive_ℚ (m p.species) ≡ false) × (m p.species ≤ℚ 0ℚ)). let e : Some p.species ≡ None = sym (ap either t.0) ∙ h in absurd (cc e))
     (is_positive_ℚ_cases (m p.species))
 
@@ -109,7 +104,7 @@ all_applicable net c (f ∷ fs) h r k s t =
     let n = or_none (flow_refusal net c f) (flows_refusal net c fs) h in
     ⊎_elim (λ (e : f.reaction ≡ r). present_all (amount c) (numbered net.reactions f.reaction).takes s (flow_none net c f n.0).1 (subst (λ q. 0 < count_of (numbered net.reactions q).takes s) (sym e) t))
     (λ (e : f.reaction ≢ r). all_applicable net c fs n.1 r (subst (λ x. 0ℚ <ℚ x) (flux_other f fs r e) k) s t)
-    (same_or_other f.reaction r)
+    (cases_eq f.reaction r)
 
 -- the other way round
 
@@ -126,10 +121,6 @@ more_left a b h k = <ℚ-≤ℚ_trans _ _ _ h (subst (λ x. x ≤ℚ a +ℚ b) (
 more_right : (a b : ℚ) → 0ℚ ≤ℚ a → 0ℚ <ℚ b → 0ℚ <ℚ a +ℚ b
 more_right a b h k = <ℚ-≤ℚ_trans _ _ _ k (subst (λ x. x ≤ℚ a +ℚ b) (zero-+ℚ b) (+ℚ-≤ℚ 0ℚ a b h))
 
-flux_if : (b : Bool) (x : ℚ) → 0ℚ ≤ℚ x → 0ℚ ≤ℚ (if b then x else 0ℚ)
-flux_if true x h = h
-flux_if false x h = ≤ℚ_refl 0ℚ
-
 pub flows_none : (net : Network) (ok : IsNetwork net) (c : List ℚ) (low : ℕ) (u : List Flow) → AreAscending low u → AreFlows (length net.reactions) u →
     ((r : ℕ) → 0ℚ <ℚ flux_of u r → IsApplicable net r c) → flows_refusal net c u ≡ None
 unfolding taken
@@ -139,7 +130,7 @@ flows_none net ok c low (f ∷ fs) a h k =
     let this : first_absent (amount c) (numbered net.reactions f.reaction).takes ≡ None =
     none_absent 0 net.species (amount c) (numbered net.reactions f.reaction).takes (ok.reactions f.reaction h.0 h.1).takes (λ s t. k f.reaction there s t) in
     let first : flow_refusal net c f ≡ None =
-    ap (λ b. if b then Some (NoReaction f.reaction) else option_map (λ s. NotPresent f.reaction s) (first_absent (amount c) (numbered net.reactions f.reaction).takes)) (test_not_above _ _ h.1)
+    ap (λ b. if b then Some (NoReaction f.reaction) else option_map (λ s. NotPresent f.reaction s) (first_absent (amount c) (numbered net.reactions f.reaction).takes)) (le-ltb _ _ h.1)
     ∙ ap (λ o. option_map (λ s. NotPresent f.reaction s) o) this in
     ap₂ option_or first (flows_none net ok c f.reaction fs a.2 h.3
     (λ r p. k r (more_right _ _ (flux_if (f.reaction == r) f.flux h.2) p)))

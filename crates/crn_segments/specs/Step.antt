@@ -15,12 +15,13 @@ abbrev pub first_absent : (ℕ → ℚ) → List Part → Option ℕ
 first_absent m [] = None
 first_absent m (p ∷ ps) = if is_positive_ℚ (m p.species) then first_absent m ps else Some p.species
 
--- its reaction exists, and its reactants are there
+-- what refuses a flow: that its reaction does not exist, or the first of its reactants that is absent
 abbrev pub flow_refusal : Network → List ℚ → Flow → Option StepError
 flow_refusal net c f =
     if nat_lt (length net.reactions) f.reaction then Some (NoReaction f.reaction)
     else option_map (λ s. NotPresent f.reaction s) (first_absent (amount c) (numbered net.reactions f.reaction).takes)
 
+-- what refuses the first flow that is refused
 abbrev pub flows_refusal : Network → List ℚ → List Flow → Option StepError
 flows_refusal net c [] = None
 flows_refusal net c (f ∷ fs) = option_or (flow_refusal net c f) (flows_refusal net c fs)

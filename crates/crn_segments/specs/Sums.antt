@@ -23,6 +23,7 @@ by_mark Untouched x a = Some a
 by_mark Fits x a = Some x
 by_mark TooBig x a = None
 
+-- the sum of species s, by its mark and what is kept for it
 abbrev pub sum_at : List Mark → List ℚ → List ℚ → ℕ → Option ℚ
 sum_at ms xs c s = by_mark (mark_of ms s) (amount xs s) (amount c s)
 
@@ -77,6 +78,7 @@ abbrev pub sum_with : ℚ → Option ℚ → Option ℚ
 sum_with p None = None
 sum_with p (Some a) = if is_frac p && is_frac (a +ℚ p) then Some (a +ℚ p) else None
 
+-- the same where the test holds, and the sum as it was where it does not
 abbrev pub sum_where : Bool → ℚ → Option ℚ → Option ℚ
 sum_where b p o = if b then sum_with p o else o
 

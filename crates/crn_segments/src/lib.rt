@@ -263,7 +263,7 @@ impl<'a> Replay<'a> {
         &self.state
     }
 
-    /// The network lives longer than the replay, so a step may be made while it is held.
+    /// The reference lives as long as the network, not as the replay: steps may be made while it is held.
     pub fn network(&self) -> &'a Network
         ensures value { result.now ≡ self.now.network }
         ensures valid { IsNetwork self.now.network }

@@ -4,16 +4,13 @@ use Rattle.std.proofs.lemmas.Bool.{cases_Bool}
 use Rattle.std.proofs.lemmas.List.{take-append-le}
 use Rattle.std.specs.List.{before_first, prefix_len}
 use Rattle.std.specs.Char.{is_ascii_digit, is_ascii_alphabetic}
+use Rattle.std.proofs.Math.Bool.{and-false}
 use Rattle.crn_token.specs.Blanks.{IsBlank, HasNo}
 use Rattle.crn_token.specs.Piece.{is_blank, sign_of, longest}
 use Rattle.crn_token.specs.Lines.{joined, physical_lines, onto_line, without_comment}
 use Rattle.crn_token.specs.Plain.{Plain, plain_of, plain_from, said, kept_line, plain_lines_from}
 use Rattle.crn_token.proofs.Cut.{longest-le}
 use Rattle.crn_token.proofs.Longest.{longest_letters, longest_digits, longest_short}
-
-pub and_false : (x : Bool) → (x && false) ≡ false
-and_false true = refl
-and_false false = refl
 
 -- a byte that is a piece alone, and neither goes on a piece nor is gone on
 pub record IsParting (b : ℕ) : Type 0 where
@@ -27,13 +24,13 @@ pub parting : (b : ℕ) → IsBlank b → IsParting b
 parting b blank = ⊎_elim (λ e. subst IsParting (sym e) space) (λ more. ⊎_elim (λ e. subst IsParting (sym e) tab) (λ e. subst IsParting (sym e) return) more) blank
   where
     space : IsParting 32
-    space = record { letter = refl; digit = refl; blank = refl; first = λ c. refl; second = λ x. simp and_false }
+    space = record { letter = refl; digit = refl; blank = refl; first = λ c. refl; second = λ x. simp and-false }
 
     tab : IsParting 9
-    tab = record { letter = refl; digit = refl; blank = refl; first = λ c. refl; second = λ x. simp and_false }
+    tab = record { letter = refl; digit = refl; blank = refl; first = λ c. refl; second = λ x. simp and-false }
 
     return : IsParting 13
-    return = record { letter = refl; digit = refl; blank = refl; first = λ c. refl; second = λ x. simp and_false }
+    return = record { letter = refl; digit = refl; blank = refl; first = λ c. refl; second = λ x. simp and-false }
 
 prefix_len-stop : (test : ℕ → Bool) (xs cs : List ℕ) (b : ℕ) → test b ≡ false → prefix_len test (xs ++ b ∷ cs) ≡ prefix_len test xs
 prefix_len-stop test [] cs b stop = rw stop refl
@@ -46,7 +43,7 @@ prefix_len-stop test (x ∷ xs) cs b stop =
 -- no piece reaches over the byte
 short_same : (x : ℕ) (xs cs : List ℕ) (b : ℕ) (rest : ℕ) → IsParting b
     → cond (ltb 1 (length (x ∷ xs ++ b ∷ cs)) && is_some (sign_of (take 2 (x ∷ xs ++ b ∷ cs)))) 2 rest ≡ cond (ltb 1 (length (x ∷ xs)) && is_some (sign_of (take 2 (x ∷ xs)))) 2 rest
-short_same x [] cs b rest p = rw (p.second x, and_false) refl
+short_same x [] cs b rest p = rw (p.second x, and-false) refl
 short_same x (y ∷ ys) cs b rest p = rw (lt-ltb 1 (suc (suc (length (ys ++ b ∷ cs)))) (omega arith), lt-ltb 1 (suc (suc (length ys))) (omega arith)) refl
 
 longest-parting : (x : ℕ) (xs cs : List ℕ) (b : ℕ) → IsParting b → longest (x ∷ xs ++ b ∷ cs) ≡ longest (x ∷ xs)
@@ -62,7 +59,7 @@ longest-parting x xs cs b p =
 -- the byte is a piece alone
 pub parting_alone : (b : ℕ) (cs : List ℕ) → IsParting b → longest (b ∷ cs) ≡ 1
 parting_alone b [] p = longest_short (b ∷ []) (omega arith) p.letter p.digit ∙ rw p.blank refl
-parting_alone b (c ∷ cs) p = longest_short (b ∷ c ∷ cs) (omega arith) p.letter p.digit ∙ rw (p.first c, and_false (ltb 1 (length (b ∷ c ∷ cs))), p.blank) refl
+parting_alone b (c ∷ cs) p = longest_short (b ∷ c ∷ cs) (omega arith) p.letter p.digit ∙ rw (p.first c, and-false (ltb 1 (length (b ∷ c ∷ cs))), p.blank) refl
 
 pub plain_parting : (b : ℕ) → IsParting b → plain_of (b ∷ []) ≡ Some []
 unfolding plain_of

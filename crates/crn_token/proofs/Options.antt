@@ -1,9 +1,7 @@
 -- What is known of the parts of an optional value, where there is one.
 use Rattle.std.proofs.Common.{◌≡◌, Bool, true, false, cond, Option, Some, None, refl}
 use Rattle.std.specs.Option.{option_map, option_and_then}
-
-pub some_alike : {A : Type 0} (a b : A) → Some a ≡ Some b → a ≡ b
-some_alike a b e = cc
+use Rattle.std.proofs.lemmas.Option.{same_Some}
 
 pub then_found : {A B : Type 0} (f : A → Option B) (o : Option A) (b : B) → option_and_then f o ≡ Some b → (a : A) × (o ≡ Some a) × (f a ≡ Some b)
 then_found f None b is = let wrong : None ≡ Some b = is in cc
@@ -11,7 +9,7 @@ then_found f (Some a) b is = (a, refl, is)
 
 pub map_found : {A B : Type 0} (f : A → B) (o : Option A) (b : B) → option_map f o ≡ Some b → (a : A) × (o ≡ Some a) × (f a ≡ b)
 map_found f None b is = let wrong : None ≡ Some b = is in cc
-map_found f (Some a) b is = (a, refl, some_alike (f a) b is)
+map_found f (Some a) b is = (a, refl, same_Some (f a) b is)
 
 pub if_found : {A : Type 0} (t : Bool) (o : Option A) (a : A) → cond t o None ≡ Some a → (t ≡ true) × (o ≡ Some a)
 if_found true o a is = (refl, is)

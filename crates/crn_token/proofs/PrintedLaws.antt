@@ -1,5 +1,6 @@
 -- What is printed as tokens reads as those tokens.
 use Rattle.std.proofs.Common.{◌≡◌, ◌≢◌, ℕ, suc, ◌+◌, ◌<◌, ◌≤◌, ◌^◌, Bool, true, false, lt-ltb, ltb, List, [], ◌∷◌, ◌++◌, length, Some, is_some, sym, refl, ap, ap₂, ◌∙◌, inl, arith, ne_eqb, append-nil}
+use Rattle.std.proofs.lemmas.Bool.{and_parts, false≢true}
 use Rattle.std.proofs.lemmas.Bool.Decides.{nat_tests}
 use Rattle.std.proofs.lemmas.Int.{ints}
 use Rattle.std.proofs.lemmas.Fmt.{decimal_is_IsNumeral}
@@ -7,6 +8,7 @@ use Rattle.std.specs.Fmt.{decimal}
 use Rattle.std.specs.Prelude.{ℤ, pos, unsigned_abs}
 use Rattle.std.specs.List.{list_all}
 use Rattle.std.specs.Char.{is_ascii_digit, is_ascii_alphabetic}
+use Rattle.std.proofs.Math.Bool.{and-false, or-true}
 use Rattle.crn_token.specs.declared.Sign.{Sign}
 use Rattle.crn_token.specs.declared.Sign.TheVariants.{LeftParen, RightParen, Comma, Plus, Minus, Slash, Colon, Arrow, AtLeast}
 use Rattle.crn_token.specs.Blanks.{HasNo}
@@ -15,9 +17,9 @@ use Rattle.crn_token.specs.Lines.{physical_lines, without_comment}
 use Rattle.crn_token.specs.Plain.{Plain, PlainWord, PlainNumber, PlainSign, PlainLine, plain_of, plain_from, said, kept_line, plain_lines_from}
 use Rattle.crn_token.specs.Printed.{Item, Shown, Blank, sign_bytes, token_bytes, spelled, shown, IsToken, keep_apart, ends_before, IsPrinted, AreLines, printed, lines_read}
 use Rattle.crn_token.proofs.Longest.{longest_short, no_letter_digit, no_digit_letter, no_blank_letter}
-use Rattle.crn_token.proofs.Printed.{Stops, longest-word, longest-digits, and_first, and_second, false_true}
-use Rattle.crn_token.proofs.RoundTrip.{or_true, plain-piece, plain_digits, number_decimal, run_decimal}
-use Rattle.crn_token.proofs.BlankLaws.{and_false, parting, parting_alone, plain_parting, before-append, lines-feed}
+use Rattle.crn_token.proofs.Printed.{Stops, longest-word, longest-digits}
+use Rattle.crn_token.proofs.RoundTrip.{plain-piece, plain_digits, number_decimal, run_decimal}
+use Rattle.crn_token.proofs.BlankLaws.{parting, parting_alone, plain_parting, before-append, lines-feed}
 
 -- a number from 0 on is what its size is
 size_of : (n : ℤ) → IsToken (PlainNumber n) → pos (unsigned_abs n) ≡ n
@@ -28,8 +30,8 @@ small_of n fits = omega (arith, ints)
 
 -- what begins with a byte of one kind stops each kind that has no such byte
 stops_run : (kind test : ℕ → Bool) (bs rest : List ℕ) → is_run kind bs ≡ true → ((b : ℕ) → kind b ≡ true → test b ≡ false) → Stops test (bs ++ rest)
-stops_run kind test [] rest run other = absurd (false_true run)
-stops_run kind test (b ∷ bs) rest run other = other b (and_first (kind b) (list_all kind bs) run)
+stops_run kind test [] rest run other = absurd (false≢true run)
+stops_run kind test (b ∷ bs) rest run other = other b (and_parts (kind b) (list_all kind bs) run).0
 
 stops_number : (test : ℕ → Bool) (n : ℤ) (rest : List ℕ) → IsToken (PlainNumber n) → ((b : ℕ) → is_ascii_digit b ≡ true → test b ≡ false) → Stops test (decimal (unsigned_abs n) ++ rest)
 stops_number test n rest fits other = stops_run is_ascii_digit test (decimal (unsigned_abs n)) rest (run_decimal (unsigned_abs n) (omega (arith, small_of n fits))) other
@@ -61,7 +63,7 @@ digit_sign AtLeast rest = refl
 after_word : (letters : List ℕ) (items : List Item) → IsPrinted items → ends_before (PlainWord letters) items ≡ true → Stops is_ascii_alphabetic (spelled items)
 after_word letters [] fine ends = tt
 after_word letters (Blank ∷ items) fine ends = refl
-after_word letters (Shown (PlainWord w) ∷ items) fine ends = absurd (false_true ends)
+after_word letters (Shown (PlainWord w) ∷ items) fine ends = absurd (false≢true ends)
 after_word letters (Shown (PlainNumber n) ∷ items) fine ends = stops_number is_ascii_alphabetic n (spelled items) fine.0 no_letter_digit
 after_word letters (Shown (PlainSign sign) ∷ items) fine ends = letter_sign sign (spelled items)
 
@@ -70,7 +72,7 @@ after_number : (n : ℤ) (items : List Item) → IsPrinted items → ends_before
 after_number n [] fine ends = tt
 after_number n (Blank ∷ items) fine ends = refl
 after_number n (Shown (PlainWord w) ∷ items) fine ends = stops_run is_ascii_alphabetic is_ascii_digit w (spelled items) fine.0 no_digit_letter
-after_number n (Shown (PlainNumber m) ∷ items) fine ends = absurd (false_true ends)
+after_number n (Shown (PlainNumber m) ∷ items) fine ends = absurd (false≢true ends)
 after_number n (Shown (PlainSign sign) ∷ items) fine ends = digit_sign sign (spelled items)
 
 -- `-` and this byte are a symbol
@@ -92,7 +94,7 @@ arrow_sign Minus rest apart = refl
 arrow_sign Slash rest apart = refl
 arrow_sign Colon rest apart = refl
 arrow_sign Arrow rest apart = refl
-arrow_sign AtLeast rest apart = absurd (false_true apart)
+arrow_sign AtLeast rest apart = absurd (false≢true apart)
 
 -- no `-` becomes another symbol by what follows it
 after_minus : (items : List Item) → IsPrinted items → ends_before (PlainSign Minus) items ≡ true → Stops makes_arrow (spelled items)
@@ -104,8 +106,8 @@ after_minus (Shown (PlainSign sign) ∷ items) fine ends = arrow_sign sign (spel
 
 -- a symbol of one byte, where the next byte makes no longer one
 one_byte : (b : ℕ) (rest : List ℕ) → is_ascii_alphabetic b ≡ false → is_ascii_digit b ≡ false → is_some (sign_of (b ∷ [])) ≡ true → Stops (λ c. is_some (sign_of (b ∷ c ∷ []))) rest → longest (b ∷ rest) ≡ 1
-one_byte b [] letter digit sign stops = longest_short (b ∷ []) (omega arith) letter digit ∙ rw (sign, or_true) refl
-one_byte b (c ∷ cs) letter digit sign stops = longest_short (b ∷ c ∷ cs) (omega arith) letter digit ∙ rw (stops, and_false (ltb 1 (length (b ∷ c ∷ cs))), sign, or_true) refl
+one_byte b [] letter digit sign stops = longest_short (b ∷ []) (omega arith) letter digit ∙ rw (sign, or-true) refl
+one_byte b (c ∷ cs) letter digit sign stops = longest_short (b ∷ c ∷ cs) (omega arith) letter digit ∙ rw (stops, and-false (ltb 1 (length (b ∷ c ∷ cs))), sign, or-true) refl
 
 -- a symbol of two bytes
 two_bytes : (b c : ℕ) (rest : List ℕ) → is_ascii_alphabetic b ≡ false → is_ascii_digit b ≡ false → is_some (sign_of (b ∷ c ∷ [])) ≡ true → longest (b ∷ c ∷ rest) ≡ 2
@@ -135,7 +137,7 @@ longest_token (PlainNumber n) items is ends fine =
 longest_token (PlainSign sign) items is ends fine = longest_sign sign items fine ends
 
 some_run : (kind : ℕ → Bool) (bs : List ℕ) → is_run kind bs ≡ true → 0 < length bs
-some_run kind [] run = absurd (false_true run)
+some_run kind [] run = absurd (false≢true run)
 some_run kind (b ∷ bs) run = omega arith
 
 some_sign : (sign : Sign) → 0 < length (sign_bytes sign)
@@ -156,8 +158,8 @@ some_token (PlainSign sign) is = some_sign sign
 
 word_says : (letters : List ℕ) → is_run is_ascii_alphabetic letters ≡ true → plain_of letters ≡ Some (PlainWord letters ∷ [])
 unfolding plain_of
-word_says [] run = absurd (false_true run)
-word_says (b ∷ bs) run = rw (no_blank_letter b bs (and_first (is_ascii_alphabetic b) (list_all is_ascii_alphabetic bs) run), run) refl
+word_says [] run = absurd (false≢true run)
+word_says (b ∷ bs) run = rw (no_blank_letter b bs (and_parts (is_ascii_alphabetic b) (list_all is_ascii_alphabetic bs) run).0, run) refl
 
 sign_says : (sign : Sign) → plain_of (sign_bytes sign) ≡ Some (PlainSign sign ∷ [])
 unfolding plain_of
@@ -197,7 +199,7 @@ has_no_append mark (b ∷ bs) cs first second = (first.0, has_no_append mark bs 
 
 has_no_all : (kind : ℕ → Bool) (mark : ℕ) (bs : List ℕ) → ((b : ℕ) → kind b ≡ true → b ≢ mark) → list_all kind bs ≡ true → HasNo mark bs
 has_no_all kind mark [] other all = tt
-has_no_all kind mark (b ∷ bs) other all = (other b (and_first (kind b) (list_all kind bs) all), has_no_all kind mark bs other (and_second (kind b) (list_all kind bs) all))
+has_no_all kind mark (b ∷ bs) other all = (other b (and_parts (kind b) (list_all kind bs) all).0, has_no_all kind mark bs other (and_parts (kind b) (list_all kind bs) all).1)
 
 has_no_run : (kind : ℕ → Bool) (mark : ℕ) (bs : List ℕ) → ((b : ℕ) → kind b ≡ true → b ≢ mark) → is_run kind bs ≡ true → HasNo mark bs
 has_no_run kind mark [] other run = tt
@@ -260,3 +262,12 @@ lines_read_from number (items ∷ lines) fine =
 -- a text that was printed reads as its lines
 pub text_reads : (lines : List (List Item)) → AreLines lines → (length (physical_lines (printed lines)) ≡ length lines) × (plain_lines_from 1 (physical_lines (printed lines)) ≡ lines_read 1 lines)
 text_reads lines fine = (lines_count lines fine, lines_read_from 1 lines fine)
+
+-- a number that is at most the greatest is a token
+pub IsToken-number : (n : ℕ) → n ≤ 9223372036854775807 → IsToken (PlainNumber (pos n))
+IsToken-number n small = (omega (arith, ints), omega (arith, ints))
+
+-- printed lines one after another
+pub AreLines-append : (xs ys : List (List Item)) → AreLines xs → AreLines ys → AreLines (xs ++ ys)
+AreLines-append [] ys first second = second
+AreLines-append (x ∷ xs) ys (is, some, more) second = (is, some, AreLines-append xs ys more second)

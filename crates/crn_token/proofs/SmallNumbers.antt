@@ -1,9 +1,9 @@
 -- No number of a text is above the greatest.
-use Rattle.std.proofs.Common.{◌≡◌, ℕ, zero, suc, ◌+◌, ◌-◌, ◌==◌, Bool, true, false, cond, ◌&&◌, ◌||◌, not, pos, List, [], ◌∷◌, ◌++◌, length, take, drop, Option, Some, None, refl, arith}
+use Rattle.std.proofs.Common.{◌≡◌, ℕ, zero, suc, ◌+◌, ◌-◌, ◌==◌, Bool, true, false, cond, ◌||◌, not, pos, List, [], ◌∷◌, ◌++◌, length, take, drop, Option, Some, None, refl, arith}
 use Rattle.std.specs.Prelude.{nat_le, slice_index}
 use Rattle.std.specs.Str.Parse.{digits_value}
 use Rattle.std.specs.Char.{is_ascii_digit, is_ascii_alphabetic}
-use Rattle.std.proofs.lemmas.Bool.{leb-true}
+use Rattle.std.proofs.lemmas.Bool.{leb-true, and_parts}
 use Rattle.crn_token.specs.declared.Sign.{Sign}
 use Rattle.crn_token.specs.Piece.{is_blank, is_run, is_number, sign_of, longest}
 use Rattle.crn_token.specs.Lines.{joined, physical_lines, without_comment}
@@ -43,14 +43,10 @@ either : (b : Bool) (x y : Option (List Plain)) → AreSmallIf x → AreSmallIf 
 either true x y first second = first
 either false x y first second = second
 
-both_right : (a b : Bool) → a && b ≡ true → b ≡ true
-both_right true b is = is
-both_right false b is = let wrong : false ≡ true = is in cc
-
 digits_small : (p : List ℕ) (b : Bool) → is_number p ≡ b → AreSmallIf (cond b (Some (PlainNumber (pos (digits_value 10 p)) ∷ [])) None)
 digits_small p false is = tt
 digits_small p true is =
-    let low = leb-true (digits_value 10 p) 9223372036854775807 (both_right (length p == 1 || not (slice_index p 0 == 48)) (nat_le (digits_value 10 p) 9223372036854775807) is) in
+    let low = leb-true (digits_value 10 p) 9223372036854775807 (and_parts (length p == 1 || not (slice_index p 0 == 48)) (nat_le (digits_value 10 p) 9223372036854775807) is).1 in
     (omega (arith, low), tt)
 
 sign_small : (o : Option Sign) → AreSmallIf (plain_sign o)

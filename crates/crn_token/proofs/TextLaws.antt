@@ -191,9 +191,3 @@ lines_of bytes lines are = ap (λ (t : Text). t.lines) are
 -- the same of the token lines of these bytes
 pub are_lines_say : (bytes : List ℕ) (lines : Lines) → AreLinesOf bytes lines → map (plain_line bytes) lines.lines.items ≡ plain_lines bytes
 are_lines_say bytes lines are = text_says bytes lines.lines.items (lines_of bytes lines are)
-
-pub are_lines_in_order : (bytes : List ℕ) (lines : Lines) → AreLinesOf bytes lines → AreInOrder 0 (length bytes) (flat_map line_tokens lines.lines.items)
-are_lines_in_order bytes lines are = text_in_order bytes lines.lines.items (lines_of bytes lines are)
-
-pub are_lines_placed : (bytes : List ℕ) (lines : Lines) → AreLinesOf bytes lines → All (IsPlaced (length bytes)) lines.lines.items
-are_lines_placed bytes lines are = text_placed bytes lines.lines.items (lines_of bytes lines are)

@@ -1,8 +1,8 @@
 use Rattle.std.proofs.Common.{length, sym, ◌∙◌, ap, arith}
 use Rattle.crn_net.specs.Network.{amount}
 use Rattle.crn_net.specs.Views.{parts_of}
+use Rattle.crn_net.proofs.Sides.{read}
 use Rattle.crn_completer.specs.Refusal.{lacks}
-use Rattle.crn_segments.proofs.SideWalk.{read}
 use Rattle.crn_completer.proofs.Quotients.{present_here, absent_here, read_is, read_in_range, test_zero}
 use Rattle.crn_completer.proofs.lacks_reactant.Goals as goal
 

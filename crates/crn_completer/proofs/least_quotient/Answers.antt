@@ -6,8 +6,8 @@ use Rattle.crn_fraction.specs.Frac.{IsFrac}
 use Rattle.crn_fraction.specs.Rational.{◌/ℚ◌, whole}
 use Rattle.crn_net.specs.Network.{amount}
 use Rattle.crn_net.specs.Views.{natural, parts_of}
+use Rattle.crn_net.proofs.Sides.{read}
 use Rattle.crn_completer.specs.Refusal.{unfit_quotient}
-use Rattle.crn_segments.proofs.SideWalk.{read}
 use Rattle.crn_completer.proofs.Quotients.{SoFar, quotient_stops, quotient_first, quotient_more, read_is, read_in_range, read_count, whole_not_zero}
 use Rattle.crn_completer.proofs.least_quotient.Goals as goal
 use Rattle.crn_completer.proofs.least_quotient.Goals.{After-div, in-None, in-Some}

@@ -4,7 +4,7 @@ use Rattle.crn_token.specs.Words.{rest_of}
 use Rattle.crn_token.proofs.LineLaws.{line_at, lines_within, count_is}
 use Rattle.crn_grammar.specs.Part.{part_end}
 use Rattle.crn_grammar.specs.Reading.{GivesPart}
-use Rattle.crn_grammar.proofs.Turns.{part_read, part_refused, part_stops, part_ends}
+use Rattle.crn_grammar.proofs.Turns.{part_read, part_refused, part_stops, part_ends, part_passed_on}
 use Rattle.crn_function_text.specs.Words.{first_word}
 use Rattle.crn_function_text.specs.Grammar.{function_table, goes_on, follow, function_part}
 use Rattle.crn_function_text.specs.Reading.{shown, function_of}
@@ -25,8 +25,8 @@ returns-then-not-allows-clause-answer c =
     (part_stops function_table goes_on bytes (function_part bytes c.args.from) c.loop-index.index line (drop (c.loop-index.index + 1) (plain_lines bytes)) s here c.loop-index.invariant.told off)
     (c.part_up_to.ensures.answer (plain_lines bytes))
 
-pub returns-in-Err-clause-answer : goal.returns-in-Err-clause-answer
-returns-in-Err-clause-answer c =
+pub returns-in_err-place-clause-answer : goal.returns-in_err-place-clause-answer
+returns-in_err-place-clause-answer c =
     let bytes = c.args.bytes.now in
     let line = c.index-line.result.now in
     let s = shown c.loop-index.place in
@@ -35,8 +35,10 @@ returns-in-Err-clause-answer c =
     let here = line_at bytes c.args.lines.now c.loop-index.index line c.requires.lines within c.index-line.ensures in
     let word_is = c.first_word-word.ensures ∙ ap (λ ts. first_word (map (plain_token bytes) ts)) c.tokens_of.ensures ∙ word_said bytes line in
     let allowed = sym c.allows.ensures ∙ c.if-not-allows.false in
-    part_refused function_table goes_on bytes (function_part bytes c.args.from) c.loop-index.index line (drop (c.loop-index.index + 1) (plain_lines bytes)) s c.in-Err.error
-    (follow s w (map (plain_token bytes) (rest_of line.tokens.items))) here c.loop-index.invariant.told (line_goes bytes line s w true word_is allowed) (rest_said bytes line s w word_is allowed) c.in-Err.ensures
+    let e = c.in_err-place.field-0.0 in
+    part_passed_on function_of (plain_lines bytes) c.from_residual.result e (function_part bytes c.args.from) c.from_residual.ensures.1
+    (part_refused function_table goes_on bytes (function_part bytes c.args.from) c.loop-index.index line (drop (c.loop-index.index + 1) (plain_lines bytes)) s e
+    (follow s w (map (plain_token bytes) (rest_of line.tokens.items))) here c.loop-index.invariant.told (line_goes bytes line s w true word_is allowed) (rest_said bytes line s w word_is allowed) c.in_err-place.ensures)
 
 pub loop-index-preserved : goal.loop-index-preserved
 loop-index-preserved c =
@@ -50,9 +52,9 @@ loop-index-preserved c =
     let word_is = c.first_word-word.ensures ∙ ap (λ ts. first_word (map (plain_token bytes) ts)) c.tokens_of.ensures ∙ word_said bytes line in
     let allowed = sym c.allows.ensures ∙ c.if-not-allows.false in
     record {
-      told = part_read function_table goes_on bytes (function_part bytes c.args.from) c.loop-index.index line (drop (c.loop-index.index + 1) (plain_lines bytes)) s (shown c.in-Ok.next)
-          (follow s w ts) here c.loop-index.invariant.told (line_goes bytes line s w true word_is allowed) (rest_said bytes line s w word_is allowed) c.in-Ok.ensures;
-      kept = kept_judged line.number s (shown c.in-Ok.next) w ts c.loop-index.invariant.kept c.in-Ok.ensures;
+      told = part_read function_table goes_on bytes (function_part bytes c.args.from) c.loop-index.index line (drop (c.loop-index.index + 1) (plain_lines bytes)) s (shown c.in_ok-place.place)
+          (follow s w ts) here c.loop-index.invariant.told (line_goes bytes line s w true word_is allowed) (rest_said bytes line s w word_is allowed) c.in_ok-place.ensures;
+      kept = kept_judged line.number s (shown c.in_ok-place.place) w ts c.loop-index.invariant.kept c.in_ok-place.ensures;
     }
 
 pub overflow_add-lines : goal.overflow_add-lines

@@ -4,19 +4,23 @@ use Rattle.crn_function_text.specs.Reading.{function_of}
 use Rattle.crn_token.proofs.LineLaws.{line_at, past_lines}
 use Rattle.crn_function_text.proofs.Steps.{text_read, text_goes_on, text_refused}
 use Rattle.crn_function_text.proofs.read_text.Goals as goal
+use Rattle.crn_function_text.specs.Grammar.{function_answer}
+use Rattle.crn_grammar.proofs.Turns.{passed_on}
 
 pub returns-then-next-len-clause-answer : goal.returns-then-next-len-clause-answer
 returns-then-next-len-clause-answer c =
     let bytes = c.args.bytes.now in
-    let within : c.in-Ok.next < length c.in_ok-lines.lines.lines.items = omega (arith, c.in_ok-lines.lines.lines.ok.0) in
-    text_goes_on bytes (function_of c.in-Ok.function) c.in-Ok.next (plain_line bytes c.index.result.now) (drop (c.in-Ok.next + 1) (plain_lines bytes)) c.in-Ok.ensures.answer
-    (line_at bytes c.in_ok-lines.lines c.in-Ok.next c.index.result.now c.in_ok-lines.ensures.lines within c.index.ensures)
-
-pub returns-in-Ok-clause-answer : goal.returns-in-Ok-clause-answer
-returns-in-Ok-clause-answer c =
-    let past : length c.in_ok-lines.lines.lines.items ≤ c.in-Ok.next = omega (arith, c.in_ok-lines.lines.lines.ok.0) in
-    text_read c.args.bytes.now (function_of c.in-Ok.function) c.in-Ok.next c.in-Ok.ensures.answer
-    (past_lines c.args.bytes.now c.in_ok-lines.lines c.in-Ok.next c.in_ok-lines.ensures.lines past)
+    let within : c.in_ok-function.next < length c.in_ok-lines.lines.lines.items = omega (arith, c.in_ok-lines.lines.lines.ok.0) in
+    text_goes_on bytes (function_of c.in_ok-function.function) c.in_ok-function.next (plain_line bytes c.index.result.now) (drop (c.in_ok-function.next + 1) (plain_lines bytes)) c.in_ok-function.ensures.answer
+    (line_at bytes c.in_ok-lines.lines c.in_ok-function.next c.index.result.now c.in_ok-lines.ensures.lines within c.index.ensures)
 
 pub returns-clause-answer : goal.returns-clause-answer
-returns-clause-answer c = text_refused c.args.bytes.now c.in-Err.error c.in-Err.ensures.answer
+returns-clause-answer c =
+    let past : length c.in_ok-lines.lines.lines.items ≤ c.in_ok-function.next = omega (arith, c.in_ok-lines.lines.lines.ok.0) in
+    text_read c.args.bytes.now (function_of c.in_ok-function.function) c.in_ok-function.next c.in_ok-function.ensures.answer
+    (past_lines c.args.bytes.now c.in_ok-lines.lines c.in_ok-function.next c.in_ok-lines.ensures.lines past)
+
+pub returns-in_err-function-clause-answer : goal.returns-in_err-function-clause-answer
+returns-in_err-function-clause-answer c =
+    let e = c.in_err-function.field-0.0 in
+    passed_on function_of c.from_residual-in_err-function.result e (function_answer c.args.bytes.now) c.from_residual-in_err-function.ensures.1 (text_refused c.args.bytes.now e c.in_err-function.ensures.answer)

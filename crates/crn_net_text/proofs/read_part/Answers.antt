@@ -1,13 +1,13 @@
 use Rattle.std.proofs.Common.{◌≡◌, ◌+◌, ◌<◌, ◌≤◌, length, drop, map, sym, ◌∙◌, ap, subst, arith}
+use Rattle.std.proofs.lemmas.Bool.{not-true, not-false}
 use Rattle.crn_token.specs.Plain.{plain_token, plain_lines}
 use Rattle.crn_token.proofs.LineLaws.{said_is, line_at, lines_within, count_is}
 use Rattle.crn_grammar.specs.Part.{part_end}
 use Rattle.crn_grammar.specs.Reading.{GivesPart}
-use Rattle.crn_grammar.proofs.Turns.{part_read, part_refused, part_stops, part_ends}
+use Rattle.crn_grammar.proofs.Turns.{part_read, part_refused, part_stops, part_ends, part_passed_on}
 use Rattle.crn_net.specs.Network.{Network}
 use Rattle.crn_net_text.specs.Grammar.{network_table, goes_on, follow, network_part}
 use Rattle.crn_net_text.specs.Reading.{place_of}
-use Rattle.crn_net_text.proofs.Tokens.{open_where, shut_where}
 use Rattle.crn_net_text.proofs.Kept.{kept_judged}
 use Rattle.crn_net_text.proofs.read_part.Goals as goal
 
@@ -19,19 +19,21 @@ returns-then-is_whole-clause-answer c =
     let here = line_at bytes c.args.lines.now c.loop-index.index line c.requires.lines within c.index-line.ensures in
     subst (GivesPart (λ (n : Network). n) (plain_lines bytes) c.part_up_to.result)
     (part_stops network_table goes_on bytes (network_part bytes) c.loop-index.index line (drop (c.loop-index.index + 1) (plain_lines bytes)) (place_of c.loop-index.place) here c.loop-index.invariant.told
-    (shut_where _ (sym c.is_whole.ensures ∙ c.if-is_whole.true)))
+    (not-true _ (sym c.is_whole.ensures ∙ c.if-is_whole.true)))
     (c.part_up_to.ensures.answer (plain_lines bytes))
 
-pub returns-in-Err-clause-answer : goal.returns-in-Err-clause-answer
-returns-in-Err-clause-answer c =
+pub returns-in_err-place-clause-answer : goal.returns-in_err-place-clause-answer
+returns-in_err-place-clause-answer c =
     let bytes = c.args.bytes.now in
     let line = c.index-line.result.now in
     let s = place_of c.loop-index.place in
     let within : c.loop-index.index < length c.args.lines.now.lines.items = omega (arith, c.args.lines.now.lines.ok.0) in
     let here = line_at bytes c.args.lines.now c.loop-index.index line c.requires.lines within c.index-line.ensures in
     let said = ap (map (plain_token bytes)) c.tokens_of.ensures ∙ said_is bytes line in
-    part_refused network_table goes_on bytes (network_part bytes) c.loop-index.index line (drop (c.loop-index.index + 1) (plain_lines bytes)) s c.in-Err.error
-    (follow s (map (plain_token bytes) c.tokens_of.result.now)) here c.loop-index.invariant.told (open_where _ (sym c.is_whole.ensures ∙ c.if-is_whole.false)) (ap (follow s) said) c.in-Err.ensures
+    let e = c.in_err-place.field-0.0 in
+    part_passed_on (λ (n : Network). n) (plain_lines bytes) c.from_residual.result e (network_part bytes) c.from_residual.ensures.1
+    (part_refused network_table goes_on bytes (network_part bytes) c.loop-index.index line (drop (c.loop-index.index + 1) (plain_lines bytes)) s e
+    (follow s (map (plain_token bytes) c.tokens_of.result.now)) here c.loop-index.invariant.told (not-false _ (sym c.is_whole.ensures ∙ c.if-is_whole.false)) (ap (follow s) said) c.in_err-place.ensures)
 
 pub loop-index-preserved : goal.loop-index-preserved
 loop-index-preserved c =
@@ -43,9 +45,9 @@ loop-index-preserved c =
     let here = line_at bytes c.args.lines.now c.loop-index.index line c.requires.lines within c.index-line.ensures in
     let said = ap (map (plain_token bytes)) c.tokens_of.ensures ∙ said_is bytes line in
     record {
-      told = part_read network_table goes_on bytes (network_part bytes) c.loop-index.index line (drop (c.loop-index.index + 1) (plain_lines bytes)) s (place_of c.in-Ok.next)
-          (follow s ts) here c.loop-index.invariant.told (open_where _ (sym c.is_whole.ensures ∙ c.if-is_whole.false)) (ap (follow s) said) c.in-Ok.ensures;
-      kept = kept_judged line.number s (place_of c.in-Ok.next) ts c.loop-index.invariant.kept c.in-Ok.ensures;
+      told = part_read network_table goes_on bytes (network_part bytes) c.loop-index.index line (drop (c.loop-index.index + 1) (plain_lines bytes)) s (place_of c.in_ok-place.place)
+          (follow s ts) here c.loop-index.invariant.told (not-false _ (sym c.is_whole.ensures ∙ c.if-is_whole.false)) (ap (follow s) said) c.in_ok-place.ensures;
+      kept = kept_judged line.number s (place_of c.in_ok-place.place) ts c.loop-index.invariant.kept c.in_ok-place.ensures;
     }
 
 pub overflow_add-lines : goal.overflow_add-lines

@@ -21,8 +21,8 @@ loop-i-preserved c =
     let size : c.unsigned_abs.result ≡ unsigned_abs c.mix-number.result = c.unsigned_abs.ensures.value ∙ ap unsigned_abs (to_z-of_z w128 _ fits) in
     let small = gcd_small c.loop-i.common c.unsigned_abs.result (2 ^ 119) c.loop-i.invariant.small (omega (arith, size, c.mix-number.ensures.small)) in
     record {
-      value = mixed_more a b c.args.p.now c.args.n.now i c.loop-i.common c.gcd-common.result c.mix-number.result c.requires.same c.loop-i-test.true c.loop-i.invariant.value number (c.gcd-common.ensures ∙ ap (gcd c.loop-i.common) size);
-      small = omega (arith, small, c.gcd-common.ensures);
+      value = mixed_more a b c.args.p.now c.args.n.now i c.loop-i.common c.wide_gcd-common.result c.mix-number.result c.requires.same c.loop-i-test.true c.loop-i.invariant.value number (c.wide_gcd-common.ensures ∙ ap (gcd c.loop-i.common) size);
+      small = omega (arith, small, c.wide_gcd-common.ensures);
     }
 
 pub returns-clause-value : goal.returns-clause-value

@@ -2,12 +2,13 @@ use Rattle.std.proofs.Common.{◌≡◌, ◌∙◌, ◌∷◌, [], Bor, get_or, 
 use Rattle.std.specs.Prelude.{ℤ, pos, ◌-ℤ◌}
 use Rattle.std.specs.Int.{w64}
 use Rattle.std.proofs.lemmas.Result.{err_from_is_err_and}
+use Rattle.std.proofs.lemmas.List.Concat.{flat_map_single}
 use Rattle.crn_linear.specs.Rows.{IsSmall}
 use Rattle.crn_feasible.specs.declared.rows.KeptRow.{KeptRow}
 use Rattle.crn_feasible.specs.Elimination.{Kept, entry, combined, take_row, take_rows}
 use Rattle.crn_feasible.specs.Steps.{Ends, kept_of, list_of, mixed_rows, IsKeptRow}
 use Rattle.crn_feasible.proofs.Exits.{ends_takes}
-use Rattle.crn_feasible.proofs.Turns.{step, stop, done, ends_same, flat_map-single, entry_there, small_at, pair_taken, negated, itself}
+use Rattle.crn_feasible.proofs.Turns.{step, stop, done, ends_same, entry_there, small_at, pair_taken, negated, itself}
 use Rattle.crn_feasible.proofs.rows.take_pairs_of.Goals.{After-row-item}
 use Rattle.crn_feasible.proofs.rows.take_pairs_of.Goals as goal
 
@@ -66,7 +67,7 @@ returns-in_err-take_mixed-clause-taken c =
     let s = (goal.at.returns-in_err-take_mixed-clause-taken c).After-row-item in
     let e = c.in_err-take_mixed.field-0.0 in
     ends_takes c.from_residual.result e _ c.take_mixed.new.self (err_from_is_err_and c.from_residual.result c.from_residual.ensures.1)
-    (subst (λ ks. Ends (take_rows (list_of c.args.rest.now) ks) e) (flat_map-single (with_first s) c.args.negatives.now)
+    (subst (λ ks. Ends (take_rows (list_of c.args.rest.now) ks) e) (flat_map_single (with_first s) c.args.negatives.now)
     (stop (list_of c.args.rest.now) (λ r. with_first s r ∷ []) c.args.negatives.now c.loop-row.row-index c.row-item.result (list_of c.loop-row.rest)
     (combined c.args.v (first s) (second s) ∷ []) e c.loop-row-test.true c.row-item.is refl c.loop-row.invariant.taken (ends_same _ _ e (pair_is s) c.in_err-take_mixed.ensures.taken)))
 
@@ -75,5 +76,5 @@ returns-clause-taken c =
     let columns = c.args.rest.now.columns in
     let sources = c.args.rest.now.sources in
     let one : Bor KeptRow → Kept = λ r. combined c.args.v (kept_of columns sources c.args.p.now) (kept_of columns sources r.now) in
-    ap (take_rows (list_of c.args.rest.now)) (sym (flat_map-single one c.args.negatives.now))
+    ap (take_rows (list_of c.args.rest.now)) (sym (flat_map_single one c.args.negatives.now))
     ∙ done (list_of c.args.rest.now) (λ r. one r ∷ []) c.args.negatives.now c.loop-row.row-index (list_of c.loop-row.rest) c.loop-row-test.false c.loop-row.invariant.taken

@@ -2,6 +2,7 @@ use Rattle.std.proofs.Common.{arith, true, false, Bool, cond, sym, ap, ap₂, �
 use Rattle.std.specs.Prelude.{ℤ, pos}
 use Rattle.std.specs.List.{list_all}
 use Rattle.std.specs.Int.{w64}
+use Rattle.std.proofs.lemmas.List.{append-nil}
 use Rattle.crn_fraction.specs.Rational.{ℚ, whole, neg_ℚ, ◌/ℚ◌}
 use Rattle.crn_linear.specs.Rows.{value}
 use Rattle.crn_feasible.specs.declared.rows.KeptRow.{KeptRow}
@@ -9,7 +10,7 @@ use Rattle.crn_feasible.specs.Elimination.{Kept, entry, bound, fits_ℚ}
 use Rattle.crn_feasible.specs.Steps.{kept_of, IsKeptRow}
 use Rattle.crn_feasible.specs.Chosen.{is_on, bounds}
 use Rattle.crn_feasible.proofs.Turns.{entry_there, kept_at, small_at, itself}
-use Rattle.crn_feasible.proofs.Sides.{bound_part, bounds_more, bound_missed, fits_push, bound_of, pushed, append-nil}
+use Rattle.crn_feasible.proofs.Sides.{bound_part, bounds_more, bound_missed, fits_push, bound_of, pushed}
 use Rattle.crn_feasible.proofs.values.bounds.Goals.{After-row-item, then-is_on+in-Some+else-is_err, else-is_on}
 use Rattle.crn_feasible.proofs.values.bounds.Goals as goal
 

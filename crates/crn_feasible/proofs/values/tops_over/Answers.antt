@@ -8,10 +8,10 @@ use Rattle.std.proofs.lemmas.Grind.{common_steps}
 use Rattle.crn_linear.specs.Rows.{IsSmall, AreSmall}
 use Rattle.crn_linear.specs.Cleared.{numerator_over}
 use Rattle.crn_feasible.specs.Elimination.{fits}
-use Rattle.crn_feasible.proofs.Quotients.{over-one}
 use Rattle.crn_feasible.proofs.Tops.{tops_more, top_missed}
 use Rattle.crn_feasible.proofs.values.tops_over.Goals.{After-product}
 use Rattle.crn_feasible.proofs.values.tops_over.Goals as goal
+use Rattle.crn_fraction.specs.Parts.{int_div-one}
 
 short : (n : ℕ) → n ≤ 2 ^ 59 → to_z w64 n ≡ pos n
 short n h = omega (arith, ints)
@@ -31,13 +31,13 @@ pub returns-in_default : goal.returns-in_default
 returns-in_default c =
     let s = (goal.at.returns-in_default c).After-product in
     top_missed c.args.den c.args.values.now c.loop-value.value-index c.value-item.result c.loop-value-test.true c.value-item.is
-    (ap fits (sym (over-one (to_z w128 (of_z w128 c.product.result)) ∙ top_is s)) ∙ c.in_default.ensures)
+    (ap fits (sym (int_div-one (to_z w128 (of_z w128 c.product.result)) ∙ top_is s)) ∙ c.in_default.ensures)
 
 pub loop-value-preserved : goal.loop-value-preserved
 loop-value-preserved c =
     let s = (goal.at.loop-value-preserved c).After-product in
     let items : c.push.new.self.items ≡ c.loop-value.tops.items ++ c.in-Some.top ∷ [] = grind (arith, common_steps) in
-    let top : c.in-Some.top ≡ numerator_over c.args.den c.value-item.result = c.in-Some.ensures.0 ∙ over-one (to_z w128 (of_z w128 c.product.result)) ∙ top_is s in
+    let top : c.in-Some.top ≡ numerator_over c.args.den c.value-item.result = c.in-Some.ensures.0 ∙ int_div-one (to_z w128 (of_z w128 c.product.result)) ∙ top_is s in
     record {
       value = items ∙ tops_more c.args.den c.args.values.now c.loop-value.value-index c.value-item.result c.loop-value.tops.items c.in-Some.top c.loop-value-test.true c.value-item.is top c.loop-value.invariant.value;
       small = subst AreSmall (sym items) (All-push IsSmall c.loop-value.tops.items c.in-Some.top c.loop-value.invariant.small c.in-Some.ensures.1);

@@ -1,7 +1,8 @@
 use Rattle.std.proofs.Common.{◌∙◌, ap, take, drop, length, ◌+◌, ◌-◌, ◌++◌, ◌≡◌, arith, suc}
 use Rattle.std.specs.Prelude.{pos, replicate}
+use Rattle.std.proofs.lemmas.List.{drop-replicate}
 use Rattle.crn_fraction.specs.Rational.{whole}
-use Rattle.crn_formula.proofs.Lists.{take_one_more, drop-replicate}
+use Rattle.crn_formula.proofs.Lists.{take_one_more}
 use Rattle.crn_formula.proofs.function.with_one.Goals as goal
 
 pub returns : goal.returns

@@ -6,6 +6,7 @@ abbrev pub invariant-turns : goal.invariant-turns
 invariant-turns g l = record {
   within : vec_len l.bytes ≤ l.limit;
   taken : Consumes (g.S.Source.left l.fn.source) (g.S.Source.left l.source) l.bytes.items;
+  calls : g.S.Source.calls l.source ≤ g.S.Source.calls l.fn.source + vec_len l.bytes;
   no_fault : g.S.Source.faults l.source ≡ g.S.Source.faults l.fn.source;
 }
 

@@ -1,9 +1,9 @@
 use Rattle.std.proofs.Common.{◌≡◌, ◌<◌, pos, length, ◌∙◌, ap, subst, arith}
 use Rattle.std.proofs.lemmas.Int.{ints}
 use Rattle.crn_segments.proofs.Counts.{passed_more, passed_found, passed_over}
-use Rattle.crn_segments.proofs.SideWalk.{read}
 use Rattle.crn_segments.proofs.work.count_from.Goals as goal
 use Rattle.crn_segments.proofs.work.count_from.Goals.{In-Some}
+use Rattle.crn_net.proofs.Sides.{read}
 
 inside : (c : In-Some) → c.loop-part.from < length c.args.parts.now
 inside c = c.in-Some.ensures.lookup.3.0

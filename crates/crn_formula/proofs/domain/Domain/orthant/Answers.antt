@@ -1,7 +1,7 @@
 use Rattle.std.proofs.Common.{◌≡◌, ◌∙◌, subst, take, arith}
 use Rattle.std.specs.Prelude.{pos}
+use Rattle.std.proofs.lemmas.List.{take-replicate}
 use Rattle.crn_formula.specs.Domains.{orthant_rows}
-use Rattle.crn_formula.proofs.Lists.{take-replicate}
 use Rattle.crn_formula.proofs.Units.{kept_orthant}
 use Rattle.crn_formula.proofs.domain.Domain.orthant.Goals as goal
 

@@ -1,6 +1,6 @@
 use Rattle.std.proofs.Common.{◌∙◌, []}
 use Rattle.std.specs.Prelude.{pos}
-use Rattle.crn_formula.proofs.Lists.{take-replicate}
+use Rattle.std.proofs.lemmas.List.{take-replicate}
 use Rattle.crn_formula.proofs.domain.Domain.whole.Goals as goal
 
 pub returns : goal.returns

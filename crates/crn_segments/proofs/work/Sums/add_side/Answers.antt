@@ -6,10 +6,11 @@ use Rattle.crn_fraction.specs.Rational.{◌*ℚ◌, whole}
 use Rattle.crn_net.specs.Network.{AreParts, count_of}
 use Rattle.crn_net.specs.Views.{parts_of, reaction_of}
 use Rattle.crn_net.specs.declared.Part.{Part}
+use Rattle.crn_net.proofs.Sides.{read}
 use Rattle.crn_segments.specs.Step.{IsSide}
 use Rattle.crn_segments.specs.Sums.{sum_in, sum_where}
 use Rattle.crn_segments.proofs.Counts.{IsAhead, ahead_stays, ahead_moves}
-use Rattle.crn_segments.proofs.SideWalk.{read, walk_skips, walk_adds}
+use Rattle.crn_segments.proofs.SideWalk.{walk_skips, walk_adds}
 use Rattle.crn_segments.proofs.work.Sums.add_side.Goals as goal
 use Rattle.crn_segments.proofs.work.Sums.add_side.Goals.{then-count_from-eq0, else-count_from-eq0}
 

@@ -1,6 +1,6 @@
 use Rattle.std.proofs.Common.{◌≡◌}
 use Rattle.crn_fraction.specs.Gcd.{gcd}
-use Rattle.crn_feasible.proofs.numbers.short_gcd.Given as goal
+use Rattle.crn_fraction.proofs.divisors.wide_gcd.Given as goal
 
 abbrev pub invariant-loop-y : goal.invariant-loop-y
 invariant-loop-y l = gcd l.x l.y ≡ gcd l.fn.a l.fn.b
