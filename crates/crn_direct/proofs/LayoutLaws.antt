@@ -11,9 +11,8 @@ use Rattle.crn_net.proofs.FeedForward.{feed_forward, not_taken, untaken}
 use Rattle.crn_net.proofs.Start.{amount-start, start_not_negative, pick_yes, pick_no}
 use Rattle.crn_linear.specs.Forms.{at}
 use Rattle.crn_net.proofs.FewReactions.{few_reactions}
-use Rattle.crn_gates.proofs.Drafting.{length-inputs_after}
+use Rattle.crn_gates.proofs.Drafting.{length-inputs_after, draft_is_network, direct_past}
 use Rattle.crn_gates.proofs.Chain.{goes_to_end}
-use Rattle.crn_gates.proofs.Drafting.{draft_is_network, direct_past}
 use Rattle.crn_gates.proofs.FanLaws.{fanned_sound}
 use Rattle.crn_gates.proofs.RailCalls.{fan_one_moves, fan_one_makes}
 use Rattle.crn_gates.proofs.Settled.{start_empty, computes_made_value}

@@ -1,5 +1,5 @@
 -- The greatest common divisor of mixed rows, number by number.
-use Rattle.std.proofs.Common.{◌≡◌, ⊎_elim, ℕ, zero, suc, ◌+◌, ◌<◌, ◌≤◌, List, [], ◌∷◌, length, get_or, take, drop, refl, sym, ap, ap₂, ◌∙◌, arith}
+use Rattle.std.proofs.Common.{◌≡◌, ⊎_elim, ℕ, zero, suc, ◌+◌, ◌<◌, ◌≤◌, List, [], ◌∷◌, length, get_or, take, drop, refl, sym, ap, ap₂, ◌∙◌, arith, to_z, of_z, ◌^◌}
 use Rattle.std.specs.Prelude.{ℤ, pos, ◌+ℤ◌, ◌*ℤ◌, unsigned_abs}
 use Rattle.std.specs.List.{fold}
 use Rattle.std.proofs.Math.Nat.{le_of_dvd, eq-zero-or-pos, eq-one_of_dvd-one}
@@ -7,7 +7,6 @@ use Rattle.crn_feasible.proofs.Divisors.{common_from-first}
 use Rattle.std.proofs.lemmas.List.Sums.{fold_more}
 use Rattle.std.proofs.lemmas.List.{take_all}
 use Rattle.std.proofs.lemmas.Int.{ints}
-use Rattle.std.proofs.Common.{to_z, of_z, ◌^◌}
 use Rattle.std.specs.Int.{w128}
 use Rattle.crn_fraction.specs.Gcd.{gcd, IsGcd-gcd}
 use Rattle.crn_feasible.specs.Elimination.{common}

@@ -1,7 +1,6 @@
 -- What follows for the next value from what the steps of the code answer.
-use Rattle.std.proofs.Common.{◌≡◌, Bool, true, false, cond, ◌&&◌, List, [], ◌∷◌, ◌++◌, Result, Ok, Err, refl, sym, ap, ap₂, ◌∙◌}
+use Rattle.std.proofs.Common.{◌≡◌, Bool, true, false, cond, ◌&&◌, List, [], ◌∷◌, ◌++◌, Result, Ok, Err, refl, sym, ap, ap₂, ◌∙◌, ℕ, zero, suc, ◌-◌, arith}
 use Rattle.std.specs.Prelude.{pos, MatchResult}
-use Rattle.std.proofs.Common.{ℕ, zero, suc, ◌-◌, arith}
 use Rattle.std.specs.List.{list_all}
 use Rattle.std.proofs.lemmas.List.Folds.{list_all-append}
 use Rattle.std.proofs.lemmas.Bool.{and_right}

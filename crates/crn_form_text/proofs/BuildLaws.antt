@@ -1,10 +1,9 @@
 -- A formula is built from its nodes.
 use Rattle.std.proofs.Common.{◌≡◌, ℕ, ◌+◌, ◌<◌, ◌≤◌, max, Bool, true, false, cond, ◌||◌, List, [], ◌∷◌, ◌++◌, length, map, Option, Some, None, refl, sym, ap, ap₂, ◌∙◌, subst, arith, append_assoc, append-nil, length-append, take_all, lt-ltb}
-use Rattle.std.specs.Option.{option_and_then, option_map}
+use Rattle.std.specs.Option.{option_and_then, option_map, IsSome}
 use Rattle.crn_grammar.specs.Table.{after}
 use Rattle.crn_grammar.proofs.TableLaws.{after_then}
 use Rattle.crn_token.specs.Plain.{Plain}
-use Rattle.std.specs.Option.{IsSome}
 use Rattle.std.proofs.lemmas.Option.{none-some, same_Some}
 use Rattle.crn_formula.specs.declared.formula.Formula as code
 use Rattle.crn_formula.specs.Views.{plain_of}

@@ -15,8 +15,7 @@ use Rattle.crn_formula.specs.Formulas.{Formula, node_count}
 use Rattle.crn_form_text.specs.Grammar.{Numeral, Whole, Over, form_tokens, AreTermsOf, fraction, Term, Variable, Multiple, Constant, Signed, column_of, coefficient_of, IsPlainTerm, ArePlain, entry_in, SpellsForm, SpellsPlain, SpellsFormula}
 use Rattle.crn_form_text.specs.Reading.{form_with, plain_forms, whole_of, mark_of}
 use Rattle.crn_form_text.specs.Built.{postfix, builds}
-use Rattle.crn_form_text.proofs.FormSpells.{spelled_form}
-use Rattle.crn_form_text.proofs.FormSpells.{terms_put}
+use Rattle.crn_form_text.proofs.FormSpells.{spelled_form, terms_put}
 use Rattle.crn_form_text.proofs.PlainLaws.{plain_run}
 use Rattle.crn_form_text.proofs.PlainSpells.{spelled_plain}
 use Rattle.crn_form_text.proofs.WalkRuns.{walk_spelled}

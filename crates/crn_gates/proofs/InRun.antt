@@ -1,6 +1,6 @@
 -- Value laws of the gates in every run: at a state where a gate has done its work.
 use Rattle.crn_net.specs.Reactions.{EachGiven}
-use Rattle.crn_gates.specs.Gates.{AreUpward, leaf_one_table, min_one_table}
+use Rattle.crn_gates.specs.Gates.{AreUpward, leaf_one_table, min_one_table, Built, slot_species, IsTable, Factor, Operand, times, scale_table, leaf_table, width_of, add_table, sub_table, min_table, max_table}
 use Rattle.crn_gates.proofs.OneRail.{leaf_one_gives, leaf_one_makes, ones_same, min_one_makes}
 use Rattle.std.proofs.Common.{◌≡◌, ℕ, suc, ◌+◌, ◌<◌, ◌≤◌, List, [], ◌∷◌, length, sym, ◌∙◌, ap, ap₂, arith}
 use Rattle.crn_fraction.proofs.Ring.{zero-+ℚ, sub_ℚ-self}
@@ -12,7 +12,6 @@ use Rattle.crn_gates.proofs.Tables.{given_above, slot_high, EachGiven-weaken, Ta
 use Rattle.crn_gates.proofs.Transfers.{leaf_makes, terms_same}
 use Rattle.crn_gates.specs.Building.{IsDone}
 use Rattle.crn_gates.specs.Values.{made_value, MakesOfTwo, MakesOfOne, MakesTerms, MakesOnes, MakesOfRails}
-use Rattle.crn_gates.specs.Gates.{Built, slot_species, IsTable, Factor, Operand, times, scale_table, leaf_table, width_of, add_table, sub_table, min_table, max_table}
 use Rattle.crn_net.proofs.InRun.{made_in_run}
 use Rattle.crn_net.specs.Network.{Network, Reaction, amount}
 use Rattle.crn_net.specs.declared.Flow.{Flow}

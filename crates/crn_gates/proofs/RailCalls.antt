@@ -31,7 +31,7 @@ use Rattle.crn_gates.specs.Singles.{rails_of_singles, factors_of_singles, value_
 
 -- ---- positive factors
 
--- and its factor is upward
+-- the factor of a positive number is upward
 positive_upward : (q : ℚ) → 0ℚ <ℚ q → IsUpward (factor_of q)
 positive_upward q h = factor_upward q (record { le = omega (arith, ints, h.lt) })
 

@@ -3,11 +3,10 @@ use Rattle.std.proofs.Common.{◌≡◌, ℕ, ◌+◌, ◌<◌, ◌≤◌, Bool,
 use Rattle.std.proofs.lemmas.List.Elements.{All-head, All-tail}
 use Rattle.std.specs.Prelude.{pos, codes, All, IsTrue}
 use Rattle.crn_token.specs.declared.Sign.TheVariants.{Plus, Arrow}
-use Rattle.crn_token.specs.Plain.{Plain, PlainWord, PlainNumber, PlainSign, plain_lines}
+use Rattle.crn_token.specs.Plain.{Plain, PlainWord, PlainNumber, PlainSign, plain_lines, line_number, end_of}
 use Rattle.crn_token.specs.Printed.{Item, Shown, Blank, shown, IsToken, IsPrinted, ends_before, AreLines, lines_read}
 use Rattle.crn_token.proofs.PrintedLaws.{text_reads, IsToken-number, AreLines-append}
 use Rattle.crn_grammar.specs.Table.{IsText, IsAnswer, Read}
-use Rattle.crn_token.specs.Plain.{line_number, end_of}
 use Rattle.crn_net.specs.Network.{Part, Reaction, Network, AreParts, IsReaction, IsNetwork, IsEnds, AreEnds, IsContext}
 use Rattle.crn_net.specs.Reactions.{EachReaction}
 use Rattle.crn_net.specs.Limits.{IsValid}

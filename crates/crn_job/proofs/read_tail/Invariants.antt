@@ -1,7 +1,6 @@
 use Rattle.std.proofs.Common.{◌≡◌, drop}
-use Rattle.crn_token.specs.Plain.{plain_lines}
+use Rattle.crn_token.specs.Plain.{plain_lines, line_number, end_of}
 use Rattle.crn_grammar.specs.Table.{answer}
-use Rattle.crn_token.specs.Plain.{line_number, end_of}
 use Rattle.crn_job.specs.Grammar.{tail_table, tail_answer}
 use Rattle.crn_job.specs.Reading.{tail_of, IsKept}
 use Rattle.crn_job.proofs.read_tail.Given as goal

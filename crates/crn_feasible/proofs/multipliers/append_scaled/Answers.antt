@@ -1,11 +1,10 @@
-use Rattle.std.proofs.Common.{◌++◌, ◌∙◌, ap₂, map, to_z, of_z, ◌≤◌, ◌^◌}
+use Rattle.std.proofs.Common.{◌++◌, ◌∙◌, ap₂, map, to_z, of_z, ◌≤◌, ◌^◌, List, ℕ, sym, subst}
 use Rattle.std.specs.Prelude.{ℤ, pos, unsigned_abs}
 use Rattle.std.specs.Int.{w64}
 use Rattle.std.specs.List.{All}
 use Rattle.std.proofs.lemmas.Int.{to_z-of_z}
 use Rattle.std.proofs.lemmas.List.{take_all}
 use Rattle.std.proofs.lemmas.List.Elements.{All-push}
-use Rattle.std.proofs.Common.{List, ℕ, sym, subst}
 use Rattle.crn_feasible.specs.Sparse.{scaled}
 use Rattle.crn_feasible.proofs.Sparse.{map_more}
 use Rattle.crn_feasible.proofs.multipliers.append_scaled.Goals as goal

@@ -1,4 +1,4 @@
-use Rattle.std.proofs.Common.{sym, ap, ap₂, ◌∙◌, ◌≡◌, [], ◌∷◌, ◌++◌}
+use Rattle.std.proofs.Common.{sym, ap, ap₂, ◌∙◌, ◌≡◌, [], ◌∷◌, ◌++◌, true, false}
 use Rattle.crn_fraction.specs.Rational.{ℚ}
 use Rattle.crn_feasible.specs.Elimination.{between, fits_ℚ}
 use Rattle.crn_feasible.specs.Steps.{list_of}
@@ -6,7 +6,6 @@ use Rattle.crn_feasible.specs.Chosen.{bounds}
 use Rattle.crn_feasible.proofs.Nexts.{finished}
 use Rattle.crn_feasible.proofs.Sides.{pushed}
 use Rattle.crn_feasible.proofs.values.next.Goals as goal
-use Rattle.std.proofs.Common.{true, false}
 
 pub returns-clause-chosen : goal.returns-clause-chosen
 returns-clause-chosen c =
