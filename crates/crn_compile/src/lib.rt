@@ -70,6 +70,3 @@ fn want_of_memory(error: BuildError) -> AllocError
     prove!(matches!(error, BuildError::Memory));
     AllocError
 }
-
-#[cfg(test)]
-mod tests;
