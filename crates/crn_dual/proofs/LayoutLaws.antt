@@ -343,6 +343,10 @@ layout_few_reactions k e o = layout_with_few k (has_context k e) e (over_columns
 pub layout_inputs : (k : ℕ) (e : Formula) → length (layout k e).inputs ≡ k
 layout_inputs k e = length-inputs_after Dual 0 k
 
+-- the amounts of a start encode a number for each variable
+pub length-encoded : (k : ℕ) (e : Formula) (xs : List ℚ) → AreAmounts (layout k e) xs → length (differences xs) ≡ k
+length-encoded k e xs amounts = length-differences k xs (amounts.long ∙ ap (λ es. length (input_species es)) (inputs_are 0 k) ∙ length-pairs 0 k)
+
 -- it stably computes the formula's value
 pub layout_computes : (k : ℕ) (e : Formula) → IsOverVariables k e → (xs : List ℚ) → AreAmounts (layout k e) xs → StablyComputes (layout k e) xs (value_over k e (differences xs))
 layout_computes k e o xs amounts = layout_with_computes k (has_context k e) e (over_columns k e o) xs amounts

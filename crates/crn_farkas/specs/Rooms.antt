@@ -1,5 +1,5 @@
 -- Systems as they are kept, with room for their rows.
-use Rattle.std.specs.Prelude.{ℕ, ◌≤◌, List, ◌++◌, [], ◌∷◌, length}
+use Rattle.std.specs.Prelude.{ℕ, ◌≤◌, List, ◌++◌, [], ◌∷◌, length, take}
 use Rattle.crn_linear.specs.Rows.{Row}
 use Rattle.crn_farkas.specs.Systems.{System, IsRectangular}
 
@@ -19,6 +19,10 @@ pub record IsSystem (s : WithRoom) : Type 0 where
 -- a system with one more row
 abbrev pub with_row : WithRoom → Row → WithRoom
 with_row s row = record s { system = record { columns = s.system.columns; rows = s.system.rows ++ row ∷ [] } }
+
+-- a system with so many of its rows, from the front
+abbrev pub truncated : ℕ → WithRoom → WithRoom
+truncated n s = record s { system = record { columns = s.system.columns; rows = take n s.system.rows } }
 
 -- what is kept, in a place for so many rows
 abbrev pub kept : (columns room : ℕ) → List Row → WithRoom

@@ -6,7 +6,7 @@ ghost use Rattle.std.specs.List.{All};
 ghost use Rattle.crn_linear.specs.Forms.{wholes};
 ghost use Rattle.crn_linear.specs.Rows.{dot, IsSmall, AreSmall, MeetsWhole};
 ghost use Rattle.crn_farkas.specs.Systems.{IsPoint, IsWholePoint, HasNoPoint, HasStrict, IsCertificate, column};
-ghost use Rattle.crn_farkas.specs.Rooms.{IsSystem, with_row, kept};
+ghost use Rattle.crn_farkas.specs.Rooms.{IsSystem, with_row, truncated, kept};
 
 use crn_linear::{Point, Row, Strength};
 use std::alloc::{AllocError, Global};
@@ -56,6 +56,20 @@ impl System {
         ensures { self.new ≡ with_row self.old row }
     {
         self.rows.push_reserved(row);
+    }
+
+    /// Takes away all rows but so many at the front. The room stays.
+    pub fn truncate(&mut self, rows: usize)
+        ensures { self.new ≡ truncated rows self.old }
+    {
+        self.rows.truncate(rows);
+    }
+
+    /// Whether there is no room for another row.
+    pub fn is_full(&self) -> bool
+        ensures { IsTrue result ↔ (self.now.room ≤ length self.now.system.rows) }
+    {
+        self.rows.len() >= self.room
     }
 
     /// The number of columns.
@@ -138,7 +152,8 @@ pub fn holds(system: &System, point: &Point) -> bool
     true
 }
 
-fn meets(row: &Row, point: &Point) -> bool
+/// Whether the point meets the row.
+pub fn meets(row: &Row, point: &Point) -> bool
     requires { length row.now.entries ≡ length point.now }
     ensures { IsTrue result ↔ MeetsWhole row.now point.now }
 {
@@ -197,9 +212,22 @@ fn column_sum(rows: &[Row], multipliers: &[i64], v: usize) -> i128
     let mut sum = 0i128;
     for i in 0..rows.len() {
         let row = &rows[i];
-        sum += product(multipliers[i], row.entry(v));
+        sum += term(multipliers[i], row, v);
     }
     sum
+}
+
+// A multiple of a row in a column. Most multipliers of a certificate are 0.
+fn term(multiplier: i64, row: &Row, v: usize) -> i128
+    requires small { IsSmall multiplier }
+    requires column { v < length row.now.entries }
+    ensures value { result ≡ multiplier *ℤ slice_index_or row.now.entries v (pos 0) }
+    ensures small { unsigned_abs result ≤ 2 ^ 118 }
+{
+    if multiplier == 0 {
+        return 0;
+    }
+    product(multiplier, row.entry(v))
 }
 
 fn product(a: i64, b: i64) -> i128
