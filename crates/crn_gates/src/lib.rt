@@ -614,6 +614,3 @@ fn want_of_memory(_error: NetworkError) -> AllocError
 {
     AllocError
 }
-
-#[cfg(test)]
-mod tests;
