@@ -31,6 +31,8 @@ mod jobs;
 #[cfg(test)]
 mod linear_forms;
 #[cfg(test)]
+mod max_min_formulas;
+#[cfg(test)]
 mod network_texts;
 #[cfg(test)]
 mod networks;

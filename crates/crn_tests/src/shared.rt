@@ -67,6 +67,74 @@ S5 -> 3 S7
 S6 + S7 -> S8
 ";
 
+/// The absolute value, by pieces.
+pub const ABSOLUTE_VALUE: &str = "function pieces
+variables 1
+piece x1
+when x1 >= 0
+piece -x1
+when -x1 >= 0
+";
+
+/// The absolute value with a piece more, which holds at 0 alone.
+pub const PIECE_ON_A_FACE: &str = "function pieces
+variables 1
+piece x1
+when x1 >= 0
+piece -x1
+when -x1 >= 0
+piece 5x1
+when x1 >= 0
+when -x1 >= 0
+";
+
+/// The median of three variables, by their six orders.
+pub const MEDIAN_BY_PIECES: &str = "function pieces
+variables 3
+piece x2
+when x2 - x1 >= 0
+when x3 - x2 >= 0
+piece x3
+when x3 - x1 >= 0
+when x2 - x3 >= 0
+piece x1
+when x1 - x2 >= 0
+when x3 - x1 >= 0
+piece x3
+when x3 - x2 >= 0
+when x1 - x3 >= 0
+piece x1
+when x1 - x3 >= 0
+when x2 - x1 >= 0
+piece x2
+when x2 - x3 >= 0
+when x1 - x2 >= 0
+";
+
+/// A variable kept between -1 and 2, by pieces.
+pub const CLAMP_BY_PIECES: &str = "function pieces
+variables 1
+piece -1
+when -x1 - 1 >= 0
+piece x1
+when x1 + 1 >= 0
+when 2 - x1 >= 0
+piece 2
+when x1 - 2 >= 0
+";
+
+/// How far a variable lies from the dead zone between -1 and 1.
+pub const DEAD_ZONE: &str = "function pieces
+variables 1
+piece x1 + 1
+when -x1 - 1 >= 0
+piece 0
+when x1 + 1 >= 0
+when 1 - x1 >= 0
+piece x1 - 1
+when x1 - 1 >= 0
+";
+
 /// The quotient of two numbers.
 pub fn quotient(num: i64, den: i64) -> Result<Frac, Fail> {
     if den == 0 {
@@ -123,6 +191,22 @@ pub fn copies(alloc: Global, part: &str, count: usize) -> Result<String, AllocEr
     let mut text = String::new(alloc);
     for _ in 0..count {
         text.push_str(part)?;
+    }
+    Ok(text)
+}
+
+/// The least of so many variables by pieces: each variable where it is at most each of the others.
+pub fn least_of_variables(alloc: Global, count: u32) -> Result<String, AllocError> {
+    let mut text = format!(in alloc; "function pieces\nvariables {count}\n")?;
+    for i in 1..=count {
+        let piece = format!(in alloc; "piece x{i}\n")?;
+        text.push_str(piece.as_str())?;
+        for j in 1..=count {
+            if i != j {
+                let condition = format!(in alloc; "when x{j} - x{i} >= 0\n")?;
+                text.push_str(condition.as_str())?;
+            }
+        }
     }
     Ok(text)
 }
