@@ -9,12 +9,13 @@ use Rattle.std.proofs.lemmas.List.Elements.{All-nil, All-cons, All-head, All-tai
 use Rattle.std.proofs.lemmas.List.Kept.{AllPairs-cons}
 use Rattle.crn_fraction.specs.Rational.{ℚ, ◌<ℚ◌}
 use Rattle.crn_linear.specs.Forms.{at, wholes}
+use Rattle.crn_linear.specs.FormRows.{above_row}
 use Rattle.crn_linear.specs.Rows.{Row}
 use Rattle.crn_farkas.specs.Systems.{System, IsRectangular}
 use Rattle.crn_formula.specs.Pieces.{Domain, IsDomain, columns_of}
 use Rattle.crn_simplex.proofs.Decisions.{Stops, StopsAt, Decision, has_point, has_none, has_limit, decision, walk}
 use Rattle.crn_cells.specs.Cells.{numbered, Names, IsMetAt, IsMet, IsCell, Before, AreCells}
-use Rattle.crn_cells.specs.Systems.{above_row, ascent_rows, order_system, IsAskedOrder}
+use Rattle.crn_cells.specs.Systems.{ascent_rows, order_system, IsAskedOrder}
 use Rattle.crn_cells.specs.Insertion.{restricted, put_in, AreOrdersWith, AreOrders, ComesFrom}
 use Rattle.crn_cells.specs.Answers.{IsRefused}
 use Rattle.crn_cells.specs.declared.CellsError.{CellsError}

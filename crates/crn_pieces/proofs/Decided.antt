@@ -9,13 +9,14 @@ use Rattle.crn_fraction.specs.Rational.{ℚ}
 use Rattle.crn_linear.specs.Forms.{distinct_forms}
 use Rattle.crn_linear.specs.Rows.{Row, IsSmall, AreSmall}
 use Rattle.crn_linear.specs.Cleared.{cleared}
-use Rattle.crn_farkas.specs.Systems.{System, IsRectangular, IsWholePoint}
+use Rattle.crn_linear.specs.FormRows.{above_row}
+use Rattle.crn_farkas.specs.Systems.{System, IsRectangular, IsWholePoint, IsPointOf, HasPoint}
 use Rattle.crn_feasible.specs.Elimination.{Stop, elimination}
 use Rattle.crn_formula.specs.Pieces.{Piece, Domain, IsDomain, Covers, Agree, columns_of}
 use Rattle.crn_formula.specs.Functions.{IsPieceOver}
 use Rattle.crn_formula.proofs.Lists.{All-map}
 use Rattle.crn_simplex.proofs.Decisions.{Stops, StopsAt, Decision, has_point, has_none, has_limit, decision, walk}
-use Rattle.crn_pieces.specs.Systems.{condition_rows, rows_of, above_row, system_over, pair_system, cover_system, IsPointOf, HasPoint}
+use Rattle.crn_pieces.specs.Systems.{condition_rows, rows_of, system_over, pair_system, cover_system}
 use Rattle.crn_pieces.specs.Choices.{AreChoices, NoneBefore, NoneWithin, IsFullPoint, IsAskedCover}
 use Rattle.crn_pieces.specs.Pairs.{pairs_of, piece_at, IsFirstWithout, IsFirstNumber, AgreeEverywhere, first_above, second_above, IsAskedPair, HaveNoPoint}
 use Rattle.crn_pieces.specs.Views.{forms_of}
@@ -27,7 +28,8 @@ use Rattle.crn_pieces.proofs.Walk.{AreLong, AreChoices-next, walk_begins, walk_i
 use Rattle.crn_pieces.proofs.SearchSteps.{long_cover}
 use Rattle.crn_pieces.proofs.Covered.{full_point, covers_exactly}
 use Rattle.crn_pieces.proofs.PairLaws.{IsPairWithin, pairs_within, AreOver, piece_within, lengths_of, differ_exactly, agree_without, Agree_from_pairs, asked_first, asked_second}
-use Rattle.crn_pieces.proofs.PairAsked.{length-above, long_conditions}
+use Rattle.crn_linear.proofs.FormRows.{length-above}
+use Rattle.crn_pieces.proofs.PairAsked.{long_conditions}
 use Rattle.crn_pieces.proofs.ClearSteps.{not_all}
 use Rattle.crn_pieces.proofs.GapSteps.{domain_point}
 use Rattle.crn_pieces.proofs.CloseForms.{close_forms}

@@ -6,7 +6,7 @@ use Rattle.crn_farkas.proofs.Motzkin.{no_point}
 use Rattle.crn_feasible.specs.Elimination.{Stop, refuted, passes, too_many, elimination}
 use Rattle.crn_feasible.proofs.Points.{full_rows, elimination_meets}
 use Rattle.crn_feasible.proofs.Certificates.{elimination_refutes}
-use Rattle.crn_simplex.proofs.Long.{elimination-long}
+use Rattle.crn_feasible.proofs.Long.{elimination-long}
 
 -- elimination of the system meets a limit
 abbrev pub Stops : System → Type 0
