@@ -1,9 +1,9 @@
 -- There is a list of all cells, or a cause why there is none: a limit of elimination, or too many cells.
 use Rattle.std.proofs.Common.{◌≡◌, ◌⊎◌, inl, inr, ⊎_elim, ℕ, suc, ◌+◌, ◌<◌, ◌≤◌, List, [], ◌∷◌, ◌++◌, length, get_or, take, refl, sym, ap, ◌∙◌, subst, arith}
-use Rattle.std.specs.Prelude.{ℤ, ◌≢◌, All}
+use Rattle.std.specs.Prelude.{◌≢◌, All}
 use Rattle.std.specs.List.{AllPairs}
 use Rattle.std.proofs.lemmas.Bool.{cases_lt, cases_order}
-use Rattle.std.proofs.lemmas.List.{length_push, length-append, take_all}
+use Rattle.std.proofs.lemmas.List.{length_push}
 use Rattle.std.proofs.lemmas.List.Edits.{length-insert}
 use Rattle.std.proofs.lemmas.List.Elements.{All-nil, All-cons, All-head, All-tail, All-append, All-push}
 use Rattle.std.proofs.lemmas.List.Kept.{AllPairs-cons}
@@ -11,12 +11,12 @@ use Rattle.crn_fraction.specs.Rational.{ℚ, ◌<ℚ◌}
 use Rattle.crn_linear.specs.Forms.{at, wholes}
 use Rattle.crn_linear.specs.FormRows.{above_row}
 use Rattle.crn_linear.specs.Rows.{Row}
-use Rattle.crn_farkas.specs.Systems.{System, IsRectangular}
+use Rattle.crn_farkas.specs.Systems.{IsRectangular}
 use Rattle.crn_formula.specs.Pieces.{Domain, IsDomain, columns_of}
-use Rattle.crn_simplex.proofs.Decisions.{Stops, StopsAt, Decision, has_point, has_none, has_limit, decision, walk}
-use Rattle.crn_cells.specs.Cells.{numbered, Names, IsMetAt, IsMet, IsCell, Before, AreCells}
+use Rattle.crn_simplex.proofs.Decisions.{StopsAt, Decision, has_point, has_none, has_limit, decision, walk}
+use Rattle.crn_cells.specs.Cells.{numbered, Names, IsMet, IsCell, Before, AreCells}
 use Rattle.crn_cells.specs.Systems.{ascent_rows, order_system, IsAskedOrder}
-use Rattle.crn_cells.specs.Insertion.{restricted, put_in, AreOrdersWith, AreOrders, ComesFrom}
+use Rattle.crn_cells.specs.Insertion.{put_in, AreOrdersWith, AreOrders, ComesFrom}
 use Rattle.crn_cells.specs.Answers.{IsRefused}
 use Rattle.crn_cells.specs.declared.CellsError.{CellsError}
 use Rattle.crn_cells.specs.declared.CellsError.TheVariants.{TooBig, TooManyRows, TooManyCells, Memory}
@@ -25,7 +25,7 @@ use Rattle.crn_cells.proofs.Domains.{inside_in}
 use Rattle.crn_cells.proofs.Rows.{length-above}
 use Rattle.crn_cells.proofs.OrderPoints.{order_point}
 use Rattle.crn_cells.proofs.Insertions.{Names-insert, restricted-put_in}
-use Rattle.crn_cells.proofs.OrderSteps.{Upto, first_order, with_none, with_same, with_refuted, with_push, fresh, upto_more, upto_begin, upto_end, level_begin, level_end}
+use Rattle.crn_cells.proofs.OrderSteps.{Upto, first_order, with_same, with_refuted, with_push, fresh, upto_more, upto_begin, upto_end, level_begin, level_end}
 use Rattle.crn_cells.proofs.Extending.{too_many}
 use Rattle.crn_cells.proofs.Unique.{before_trans}
 

@@ -1,5 +1,5 @@
 -- Every function within its limits has a network, or there is a cause why it has none.
-use Rattle.std.proofs.Common.{◌≡◌, ◌⊎◌, inl, inr, ⊎_elim, ℕ, ◌≤◌, List, length, refl, sym, subst}
+use Rattle.std.proofs.Common.{◌⊎◌, inl, inr, ℕ, ◌≤◌, List, length, refl, sym, subst}
 use Rattle.std.specs.Prelude.{◌≢◌, All}
 use Rattle.crn_farkas.specs.Systems.{System}
 use Rattle.crn_net.specs.Network.{Network}

@@ -14,7 +14,7 @@ use Rattle.crn_cells.specs.Answers as cells
 use Rattle.crn_cells.specs.declared.CellsError.{CellsError}
 use Rattle.crn_cells.specs.declared.CellsError.TheVariants as no_cells
 use Rattle.crn_cells.proofs.Decided as deciding
-use Rattle.crn_maxmin.specs.Marked.{Marked, numbered_forms, IsMarked, AreAllCells}
+use Rattle.crn_maxmin.specs.Marked.{Marked, numbered_forms, IsMarked}
 use Rattle.crn_maxmin.specs.Conversion.{formula_of}
 use Rattle.crn_maxmin.specs.Answers.{IsFormulaOf, IsRefused}
 use Rattle.crn_maxmin.specs.declared.MaxminError.{MaxminError}

@@ -1,24 +1,23 @@
 -- Pieces are checked, or refused for a cause: what stands first of too many forms, a row that does not clear, a pair, a gap, and a limit of elimination.
 use Rattle.std.proofs.Common.{◌≡◌, ◌⊎◌, inl, inr, ⊎_elim, ℕ, zero, suc, ◌+◌, ◌<◌, ◌≤◌, ◌^◌, List, [], ◌∷◌, ◌++◌, length, get_or, Ok, refl, sym, ap, ◌∙◌, subst, arith}
-use Rattle.std.specs.Prelude.{ℤ, unsigned_abs, ◌≢◌, All, Result}
+use Rattle.std.specs.Prelude.{ℤ, unsigned_abs, ◌≢◌, All}
 use Rattle.std.proofs.lemmas.Bool.{cases_lt}
-use Rattle.std.proofs.lemmas.Int.{ints}
 use Rattle.std.proofs.lemmas.List.{append-nil, append_assoc, length-map, length_push}
 use Rattle.std.proofs.lemmas.List.Elements.{All-nil, All-cons, All-head, All-append, All-push, All-weaker}
 use Rattle.crn_fraction.specs.Rational.{ℚ}
 use Rattle.crn_linear.specs.Forms.{distinct_forms}
-use Rattle.crn_linear.specs.Rows.{Row, IsSmall, AreSmall}
+use Rattle.crn_linear.specs.Rows.{Row, IsSmall}
 use Rattle.crn_linear.specs.Cleared.{cleared}
 use Rattle.crn_linear.specs.FormRows.{above_row}
 use Rattle.crn_farkas.specs.Systems.{System, IsRectangular, IsWholePoint, IsPointOf, HasPoint}
-use Rattle.crn_feasible.specs.Elimination.{Stop, elimination}
+use Rattle.crn_feasible.specs.Elimination.{elimination}
 use Rattle.crn_formula.specs.Pieces.{Piece, Domain, IsDomain, Covers, Agree, columns_of}
 use Rattle.crn_formula.specs.Functions.{IsPieceOver}
 use Rattle.crn_formula.proofs.Lists.{All-map}
-use Rattle.crn_simplex.proofs.Decisions.{Stops, StopsAt, Decision, has_point, has_none, has_limit, decision, walk}
+use Rattle.crn_simplex.proofs.Decisions.{StopsAt, Decision, has_point, has_none, has_limit, decision, walk}
 use Rattle.crn_pieces.specs.Systems.{condition_rows, rows_of, system_over, pair_system, cover_system}
 use Rattle.crn_pieces.specs.Choices.{AreChoices, NoneBefore, NoneWithin, IsFullPoint, IsAskedCover}
-use Rattle.crn_pieces.specs.Pairs.{pairs_of, piece_at, IsFirstWithout, IsFirstNumber, AgreeEverywhere, first_above, second_above, IsAskedPair, HaveNoPoint}
+use Rattle.crn_pieces.specs.Pairs.{pairs_of, piece_at, IsFirstWithout, AgreeEverywhere, first_above, second_above, IsAskedPair, HaveNoPoint}
 use Rattle.crn_pieces.specs.Views.{forms_of}
 use Rattle.crn_pieces.specs.Answers.{IsOwnPoint, IsFirstPoint, Clears, DoConditionsClear, DoesDifferenceClear, HasFewForms, IsPrepared, AreChecked, IsAsked, IsDisagreement, IsRefused}
 use Rattle.crn_pieces.specs.declared.PiecesError.{PiecesError}
@@ -27,7 +26,7 @@ use Rattle.crn_pieces.proofs.MeetLaws.{All_left, All_right}
 use Rattle.crn_pieces.proofs.Walk.{AreLong, AreChoices-next, walk_begins, walk_in, walk_on, walk_out, walk_over, walk_found}
 use Rattle.crn_pieces.proofs.SearchSteps.{long_cover}
 use Rattle.crn_pieces.proofs.Covered.{full_point, covers_exactly}
-use Rattle.crn_pieces.proofs.PairLaws.{IsPairWithin, pairs_within, AreOver, piece_within, lengths_of, differ_exactly, agree_without, Agree_from_pairs, asked_first, asked_second}
+use Rattle.crn_pieces.proofs.PairLaws.{IsPairWithin, pairs_within, piece_within, lengths_of, differ_exactly, agree_without, Agree_from_pairs, asked_first, asked_second}
 use Rattle.crn_linear.proofs.FormRows.{length-above}
 use Rattle.crn_pieces.proofs.PairAsked.{long_conditions}
 use Rattle.crn_pieces.proofs.ClearSteps.{not_all}
