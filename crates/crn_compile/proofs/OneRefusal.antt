@@ -1,5 +1,5 @@
 -- Two refusals of one function are the same but for a point, unless one is a solving limit, and no other stands beside a network.
-use Rattle.std.proofs.Common.{◌≡◌, ◌⊎◌, inl, inr, ⊎_elim, ℕ, ◌<◌, List, refl, sym, ap, ap₂, ◌∙◌, subst, arith}
+use Rattle.std.proofs.Common.{◌≡◌, ◌⊎◌, inl, inr, ⊎_elim, ℕ, List, refl, sym, ap, ap₂, ◌∙◌, subst, arith}
 use Rattle.std.specs.Prelude.{ℤ, ◌≢◌, length, All}
 use Rattle.crn_net.specs.Network.{Network}
 use Rattle.crn_formula.specs.Pieces.{Piece, Domain, Covers, Agree}

@@ -1,7 +1,7 @@
 -- How two refusals of one function may differ.
 use Rattle.std.specs.Prelude.{◌≡◌, ◌⊎◌}
 use Rattle.crn_compile.specs.declared.CompileError.{CompileError}
-use Rattle.crn_compile.specs.declared.CompileError.TheVariants.{TooManyForms, BigCondition, BigDifference, Disagree, NotCovered, TooBig, TooManyRows, TooManyCells, TooManyNodes, Memory}
+use Rattle.crn_compile.specs.declared.CompileError.TheVariants.{TooManyForms, BigCondition, BigDifference, Disagree, NotCovered, TooBig, TooManyRows, Memory}
 
 -- elimination of a system passes a limit
 abbrev pub IsSolvingLimit : CompileError → Type 0

@@ -1,5 +1,5 @@
 -- The formula of pieces is one, and pieces that have it have neither too many cells nor, where it is small, too many nodes.
-use Rattle.std.proofs.Common.{◌≡◌, ℕ, ◌<◌, ◌≤◌, List, length, map, sym, ap, ◌∙◌, subst, arith}
+use Rattle.std.proofs.Common.{◌≡◌, ℕ, ◌≤◌, List, map, sym, ap, ◌∙◌, arith}
 use Rattle.std.proofs.lemmas.List.{length-map}
 use Rattle.crn_formula.specs.Formulas.{Formula, node_count}
 use Rattle.crn_formula.specs.Pieces.{Piece, Domain}

@@ -1,11 +1,9 @@
 -- The first that fails is one, and what the refusals of pieces exclude.
-use Rattle.std.proofs.Common.{◌≡◌, ℕ, zero, suc, ◌+◌, ◌<◌, ◌≤◌, List, [], ◌∷◌, ◌++◌, length, refl, sym, ap, ◌∙◌, subst, arith}
+use Rattle.std.proofs.Common.{◌≡◌, ℕ, zero, suc, ◌+◌, ◌≤◌, List, [], ◌∷◌, ◌++◌, length, refl, sym, ap, ◌∙◌, subst, arith}
 use Rattle.std.specs.Prelude.{ℤ, All, Contains}
 use Rattle.std.proofs.lemmas.List.Elements.{All-head, All-tail, All-contains, Contains-append_right, Contains-get_or}
-use Rattle.crn_fraction.specs.Rational.{ℚ}
-use Rattle.crn_linear.specs.Forms.{wholes}
 use Rattle.crn_formula.specs.Pieces.{Piece, Domain, Covers, Agree}
-use Rattle.crn_pieces.specs.Pairs.{pairs_of, no_piece, piece_at, IsFirstWithout, IsFirstNumber, AgreeEverywhere}
+use Rattle.crn_pieces.specs.Pairs.{pairs_of, no_piece, piece_at, IsFirstWithout, IsFirstNumber}
 use Rattle.crn_pieces.specs.Answers.{Clears, DoConditionsClear, IsFirstBigCondition, IsDisagreement, IsGap}
 use Rattle.crn_pieces.proofs.Lists.{first}
 use Rattle.crn_pieces.proofs.PairLaws.{IsPairWithin, pairs_within}
