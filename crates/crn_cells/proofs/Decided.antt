@@ -198,10 +198,10 @@ module _ (D : Domain) (is_domain : IsDomain D) (F : List (List ℚ)) (long : All
 
         at_place : Reached (Upto m orders i k) → Decision (order_system D F x) → Reached (Upto m orders i (k + 1)) ⊎ IsEnd
         at_place r (has_point p e meets size) =
-            let h = (order_point D F x p long within_x).0 (meets, size) in
+            let h = (order_point D F x p long within_x).0 (record { long = size; meets = meets }) in
             push r (p, record { names = names; is_in = h.0; ascend = h.1 })
         at_place r (has_none none) =
-            let unmet : ¬ IsMet D F (suc m) x = λ met. none.whole met.0 ((order_point D F x met.0 long within_x).1 (met.1.is_in, met.1.ascend)).0 in
+            let unmet : ¬ IsMet D F (suc m) x = λ met. none.whole met.0 ((order_point D F x met.0 long within_x).1 (met.1.is_in, met.1.ascend)).meets in
             inl (record { next = r.next; found = more r.next (with_refuted D F (suc m) (Upto m orders i k) r.next x unmet r.found); lengths = r.lengths; few = r.few })
         at_place r (has_limit stops) = inr (stopped D F (order_system D F x, asked, stops))
 
