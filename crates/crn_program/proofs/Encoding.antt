@@ -5,7 +5,9 @@ use Rattle.crn_fraction.proofs.Linear.{max_ℚ-above_left, max_ℚ-above_right, 
 use Rattle.crn_fraction.proofs.Ring.{ring_ℚ, q-writes}
 use Rattle.crn_formula.specs.Functions.{Kind, ByFormula, ByPieces, ByLeast}
 use Rattle.crn_compile.specs.Networks as networks
-use Rattle.crn_net.specs.Network.{Network, Rails, Dual, Direct, AreAmounts, AreNotNegative, differences, encoded}
+use Rattle.crn_net.specs.Network.{Network, AreAmounts, AreNotNegative, differences, encoded}
+use Rattle.crn_net.specs.declared.Rails.{Rails}
+use Rattle.crn_net.specs.declared.Rails.TheVariants.{Dual, Direct}
 use Rattle.crn_job.specs.Grammar.{amounts_of, rails_of}
 use Rattle.crn_program.specs.Correct.{IsInput}
 use Rattle.crn_program.proofs.Computing.{input_count}
@@ -26,7 +28,7 @@ differences_are (q ∷ x) = ap₂ (λ d y. d ∷ y) (left_over (max_ℚ q 0ℚ) 
 not_negative : (x : List ℚ) → AreNotNegative (pairs x)
 unfolding pairs
 not_negative [] = tt
-not_negative (q ∷ x) = (max_ℚ-above_right q 0ℚ, (difference_nonneg q (max_ℚ q 0ℚ)).0 (max_ℚ-above_left q 0ℚ), not_negative x)
+not_negative (q ∷ x) = (max_ℚ-above_right q 0ℚ, ((difference_nonneg q (max_ℚ q 0ℚ)).0 (max_ℚ-above_left q 0ℚ), not_negative x))
 
 length-pairs : (x : List ℚ) → length (pairs x) ≡ length x * 2
 unfolding pairs

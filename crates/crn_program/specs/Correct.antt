@@ -8,8 +8,11 @@ use Rattle.crn_formula.specs.Pieces.{Piece, Covers, Agree}
 use Rattle.crn_formula.specs.Domains.{domain_for}
 use Rattle.crn_formula.specs.Functions.{ByPieces}
 use Rattle.crn_function_text.specs.Grammar.{PlainFunction}
-use Rattle.crn_net.specs.Network.{Network, Rails, Dual, Direct, Flow, AreAmounts, AreNotNegative, Run, IsSettled, StablyComputes, start, encoded, completion, completed, output}
+use Rattle.crn_net.specs.Network.{Network, AreAmounts, AreNotNegative, Run, IsSettled, StablyComputes, start, encoded, completion, completed, output}
 use Rattle.crn_net.specs.Totals.{total}
+use Rattle.crn_net.specs.declared.Flow.{Flow}
+use Rattle.crn_net.specs.declared.Rails.{Rails}
+use Rattle.crn_net.specs.declared.Rails.TheVariants.{Dual, Direct}
 use Rattle.crn_net_text.specs.NetworkText.{network_text}
 use Rattle.crn_job.specs.Grammar.{PlainJob}
 use Rattle.crn_job.specs.RunGrammar.{PlainRunJob}
