@@ -6,7 +6,7 @@ use Rattle.crn_token.specs.Plain.{plain_lines}
 use Rattle.crn_grammar.specs.Table as grammar
 use Rattle.crn_formula.specs.Pieces.{Piece, Covers, Agree}
 use Rattle.crn_formula.specs.Domains.{domain_for}
-use Rattle.crn_formula.specs.Functions.{Kind, ByPieces}
+use Rattle.crn_formula.specs.Functions.{ByPieces}
 use Rattle.crn_function_text.specs.Grammar.{PlainFunction}
 use Rattle.crn_net.specs.Network.{Network, start, encoded, after_all, completion, completed, output}
 use Rattle.crn_net.specs.declared.Flow.{Flow}

@@ -1,12 +1,10 @@
 -- What refusals say that are for no limit, by what is found.
-use Rattle.std.proofs.Common.{◌⊎◌, ◌≡◌, ℕ, suc, List, [], ◌∷◌, ◌++◌, length, None, Some, refl, sym, ap, ◌∙◌, subst, inl, inr}
-use Rattle.std.specs.Prelude.{ℤ, codes}
+use Rattle.std.proofs.Common.{◌≡◌, ℕ, List, [], ◌∷◌, ◌++◌, None, Some, refl, sym, ap, ◌∙◌, subst, inl, inr}
+use Rattle.std.specs.Prelude.{codes}
 use Rattle.std.specs.Fmt.{decimal}
 use Rattle.crn_fraction.specs.Rational.{ℚ}
 use Rattle.crn_token.specs.Plain.{plain_lines}
-use Rattle.crn_token.specs.declared.Counted.{Counted}
 use Rattle.crn_grammar.specs.Table as grammar
-use Rattle.crn_linear.specs.Forms.{wholes}
 use Rattle.crn_formula.specs.Pieces.{Piece}
 use Rattle.crn_formula.specs.Domains.{domain_for}
 use Rattle.crn_formula.specs.Functions.{Kind, ByFormula, ByPieces, ByLeast}
@@ -27,7 +25,7 @@ use Rattle.crn_job.specs.Grammar.{PlainJob}
 use Rattle.crn_job.specs.RunGrammar.{PlainRunJob}
 use Rattle.crn_job.proofs.KeptJobs.{text_job, text_run_job}
 use Rattle.crn_program.specs.Answer.{Answers, IsFunctionAnswer, IsJobAnswer, IsRunAnswer, IsOutcomeOfFunction, IsOutcomeOfJob, IsOutcomeOfRunJob}
-use Rattle.crn_program.specs.Finding.{Outcome, NotCompiled, RefusedSegment, Unfinished, NoValue, Compiled, Completed, Ran, Finding, Comes, status_of, status_of_outcome, status_of_cause, status_of_step, text_of, text_of_outcome, text_of_cause, step_words}
+use Rattle.crn_program.specs.Finding.{Outcome, NotCompiled, RefusedSegment, Unfinished, NoValue, Compiled, Completed, Ran, status_of, status_of_outcome, status_of_cause, status_of_step, text_of, text_of_outcome, text_of_cause, step_words}
 use Rattle.crn_program.specs.Refused.{RefusesSegment, RefusesPair, RefusesGap}
 use Rattle.crn_program.specs.Report.{refusal}
 use Rattle.crn_program.specs.Runs.{IsRefused, IsRefusedCompletion, IsOutcomeOfSegments}

@@ -14,7 +14,7 @@ use Rattle.crn_net.specs.declared.Flow.{Flow}
 use Rattle.crn_net.specs.declared.Rails.{Rails}
 use Rattle.crn_net.specs.declared.Rails.TheVariants.{Dual, Direct}
 use Rattle.crn_net_text.specs.NetworkText.{network_text}
-use Rattle.crn_job.specs.Grammar.{PlainJob}
+use Rattle.crn_job.specs.Grammar.{PlainJob, rails_of}
 use Rattle.crn_job.specs.RunGrammar.{PlainRunJob}
 use Rattle.crn_bulk.specs.Generator.{bulk_job, bulk_number}
 use Rattle.crn_program.specs.Answer.{IsFunctionAnswer, IsNetworkAnswer, IsJobAnswer, IsRunAnswer}
@@ -24,7 +24,7 @@ use Rattle.crn_program.specs.Value.{IsValue, IsNetworkOf}
 
 -- ---- words
 
--- a point of k numbers, none negative where the network has one species an input
+-- a point of k numbers, none negative where there is one species an input, as for the least of forms
 abbrev pub IsInput : Rails → ℕ → List ℚ → Type 0
 IsInput Dual k x = length x ≡ k
 IsInput Direct k x = (length x ≡ k) × AreNotNegative x
@@ -51,7 +51,7 @@ pub record Compiles (bytes text : List ℕ) : Type 0 where
   pub net : Network
   pub read : IsFunctionAnswer bytes (Read function)
   pub network : IsNetworkOf function net
-  pub starts : (x : List ℚ) → IsInput net.rails function.variables x → (amounts : List ℚ) × AreAmounts net amounts × (encoded net.rails amounts ≡ x)
+  pub starts : (x : List ℚ) → IsInput (rails_of function.kind) function.variables x → (amounts : List ℚ) × AreAmounts net amounts × (encoded net.rails amounts ≡ x)
   pub computes : (amounts : List ℚ) → AreAmounts net amounts → (v : ℚ) × IsValue function (encoded net.rails amounts) v × StablyComputes net amounts v
   pub pieces : (ps : List Piece) → function.kind ≡ ByPieces ps → Covers (domain_for function.variables (ByPieces ps)) ps × Agree (domain_for function.variables (ByPieces ps)) ps
   pub written : text ≡ network_text net
