@@ -160,7 +160,7 @@ module _ (domain : Domain) (ps : List Piece) where
       ⊎_elim
       (λ limit. inr (inr (inl (limit, found_by_solving b (prepared_by a limit first) v second))))
       (λ at. ⊎_elim
-      (λ limit. inr (inr (inr (found_by_solving a (prepared_by b limit second) u first, limit))))
+      (λ limit. inr (inr (inr (limit, found_by_solving a (prepared_by b limit second) u first))))
       (λ also. same_question a b at also)
       (placed b v second))
       (placed a u first)

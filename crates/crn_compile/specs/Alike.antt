@@ -23,7 +23,11 @@ AreSameButForPoint (Disagree i j p) (Disagree k l q) = (i ≡ k) × (j ≡ l)
 AreSameButForPoint (NotCovered p) (NotCovered q) = Unit {0}
 AreSameButForPoint first second = ⊥
 
+-- a solving limit, and what the search would have found
+abbrev pub IsLimitBeside : CompileError → CompileError → Type 0
+IsLimitBeside limit found = IsSolvingLimit limit × IsFoundBySolving found
+
 -- they are the same, but for the point, or one is a solving limit beside what the search would have found
 abbrev pub AreAlike : CompileError → CompileError → Type 0
 AreAlike first second =
-    (first ≡ second) ⊎ (AreSameButForPoint first second ⊎ ((IsSolvingLimit first × IsFoundBySolving second) ⊎ (IsFoundBySolving first × IsSolvingLimit second)))
+    (first ≡ second) ⊎ (AreSameButForPoint first second ⊎ (IsLimitBeside first second ⊎ IsLimitBeside second first))

@@ -40,7 +40,7 @@ found_status : (f g : Finding) → MayBothBeFound f g → ¬ IsOfSolving (status
 found_status (Comes o) (Comes p) both first second =
     ⊎_elim
     (λ same. point_status o p same)
-    (λ limit. ⊎_elim (λ l. absurd (first (limit_status o l.0))) (λ l. absurd (second (limit_status p l.1))) limit)
+    (λ limit. ⊎_elim (λ l. absurd (first (limit_status o l.0))) (λ l. absurd (second (limit_status p l.0))) limit)
     both
 found_status f g both first second = absurd both
 
