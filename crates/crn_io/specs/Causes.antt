@@ -1,5 +1,5 @@
 -- What a call does to a count of faults, and to one of the calls that gave no byte.
-use Rattle.std.specs.Prelude.{◌≡◌, ℕ, ◌+◌, ◌-◌, ◌^◌, ◌<◌, ◌≤◌, min, Some, None, IfOk, OnOk, OnErr}
+use Rattle.std.specs.Prelude.{◌≡◌, ℕ, ◌+◌, ◌-◌, ◌^◌, ◌<◌, ◌≤◌, ◌⊎◌, min, Some, None, IfOk, OnOk, OnErr}
 use Rattle.std.specs.declared.result.Result.{Result}
 use Rattle.std.specs.declared.option.Option.{Option}
 
@@ -21,6 +21,10 @@ pub record HasCause {T E : Type 0} (before now : ℕ) (result : Result T E) : Ty
 abbrev pub once_more : Option ℕ → Option ℕ
 once_more None = None
 once_more (Some n) = Some (raised n)
+
+-- the count is as it was, or one more
+abbrev pub AtMostOnce : Option ℕ → Option ℕ → Type 0
+AtMostOnce before now = (now ≡ before) ⊎ (now ≡ once_more before)
 
 -- the count is one more where a read gave no byte, which is at the end and where it failed, and as it was where it gave some
 pub record CountsNothing {E : Type 0} (before now : Option ℕ) (result : Result ℕ E) : Type 0 where
