@@ -21,7 +21,16 @@ IsPoint s x = All (λ r. Meets r x) s.rows
 abbrev pub IsWholePoint : System → List ℤ → Type 0
 IsWholePoint s p = All (λ r. MeetsWhole r p) s.rows
 
--- no point does
+-- a point of the system: a whole number for each column, and it meets each row
+pub record IsPointOf (s : System) (p : List ℤ) : Type 0 where
+  pub long : length p ≡ s.columns
+  pub meets : IsWholePoint s p
+
+-- there is such a point
+abbrev pub HasPoint : System → Type 0
+HasPoint s = (p : List ℤ) × IsPointOf s p
+
+-- no point meets each row
 pub record HasNoPoint (s : System) : Type 0 where
   pub rational : (x : List ℚ) → ¬ IsPoint s x
   pub whole : (p : List ℤ) → ¬ IsWholePoint s p

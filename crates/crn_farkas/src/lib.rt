@@ -58,14 +58,14 @@ impl System {
         self.rows.push_reserved(row);
     }
 
-    /// Takes away all rows but so many at the front.
+    /// Takes away all rows but so many at the front. The room stays.
     pub fn truncate(&mut self, rows: usize)
         ensures { self.new ≡ truncated rows self.old }
     {
         self.rows.truncate(rows);
     }
 
-    /// Whether there is no room for a row.
+    /// Whether there is no room for another row.
     pub fn is_full(&self) -> bool
         ensures { IsTrue result ↔ (self.now.room ≤ length self.now.system.rows) }
     {
@@ -152,7 +152,8 @@ pub fn holds(system: &System, point: &Point) -> bool
     true
 }
 
-fn meets(row: &Row, point: &Point) -> bool
+/// Whether the point meets the row.
+pub fn meets(row: &Row, point: &Point) -> bool
     requires { length row.now.entries ≡ length point.now }
     ensures { IsTrue result ↔ MeetsWhole row.now point.now }
 {

@@ -21,6 +21,7 @@ pub mod Orders
 pub mod Between
 pub mod Taking
 pub mod Columns
+pub mod Long
 pub mod Points
 pub mod Certificates
 pub mod Sizes

@@ -1,5 +1,5 @@
 -- The point that elimination answers meets the system.
-use Rattle.std.proofs.Common.{◌≡◌, ◌⊎◌, ⊎_elim, ℕ, zero, suc, ◌<◌, ◌≤◌, Bool, true, false, cond, List, [], ◌∷◌, ◌++◌, length, get_or, map, Ok, Err, refl, sym, ap, ap₂, ◌∙◌, subst, arith}
+use Rattle.std.proofs.Common.{◌≡◌, ◌⊎◌, ⊎_elim, ℕ, zero, suc, ◌<◌, ◌≤◌, true, false, List, [], ◌∷◌, ◌++◌, length, get_or, map, Ok, refl, sym, ap, ap₂, ◌∙◌, subst, arith}
 use Rattle.std.proofs.lemmas.List.{get_or_past}
 use Rattle.std.specs.Prelude.{ℤ, pos, neg_ℤ, ◌+ℤ◌, ◌*ℤ◌, int_lt, int_div}
 use Rattle.std.specs.List.{flat_map, list_all, All}
@@ -20,9 +20,10 @@ use Rattle.crn_linear.proofs.Multiples.{numerator_is}
 use Rattle.crn_linear.proofs.WholePoints.{meets_whole}
 use Rattle.crn_linear.specs.Rows.{Row, Meets, MeetsWhole, IsBelow, value}
 use Rattle.crn_farkas.specs.Systems.{System, IsRectangular, IsWholePoint}
-use Rattle.crn_feasible.specs.Elimination.{passes, Kept, after, over, reduced, divisor, is_zero, take_rows, entry, zeros, positives, negatives, combined, without, bound, between, numerators_over, next, coordinates, started, elimination}
+use Rattle.crn_feasible.specs.Elimination.{Kept, after, over, reduced, divisor, is_zero, take_rows, entry, zeros, positives, negatives, combined, without, bound, between, numerators_over, next, coordinates, started, elimination}
 use Rattle.crn_linear.specs.Cleared.{common_den}
 use Rattle.crn_farkas.proofs.Mixing.{get_or-mixed}
+use Rattle.crn_feasible.proofs.Long.{next_is, coordinates-long}
 use Rattle.crn_feasible.proofs.Orders.{Each, Each-weaker, positive_times}
 use Rattle.crn_feasible.proofs.Between.{Each-both, Each-map}
 use Rattle.crn_feasible.proofs.Taking.{Met, NonZero, after-ok, Each-append, rows_kept, rows_nonzero, rows_met, test_from_zeros}
@@ -94,10 +95,6 @@ without_zero v rows h =
     (Each-without (ZeroFrom (suc v)) (ZeroFrom v) v rows (λ k e z. zero_zeros v k e z) (λ p n hp hn a b. zero_combined v p n a b) h)
 
 -- ---- the coordinates
-next_is : (t : Bool) (all ys : List ℚ) → cond t (Ok all) (Err passes) ≡ Ok ys → ys ≡ all
-next_is true all ys h = cc
-next_is false all ys h = cc
-
 pub all_zero : (r : List ℤ) → ((i : ℕ) → zero ≤ i → get_or r i (pos 0) ≡ pos 0) → Each (λ x. x ≡ pos 0) r
 all_zero [] h = tt
 all_zero (x ∷ r) h = (h zero (omega arith), all_zero r (λ i l. h (suc i) (omega arith)))
@@ -106,14 +103,8 @@ no_column : (xs : List ℚ) (k : Kept) → NonZero k → ZeroFrom zero k → Met
 unfolding NonZero ZeroFrom
 no_column xs k n z = let t : list_all (λ x. int_eq x (pos 0)) k.row.entries ≡ true = test_from_zeros k.row.entries (all_zero k.row.entries z) in absurd (both_ways _ n t)
 
-length-push : (xs : List ℚ) (x : ℚ) (v : ℕ) → length xs ≡ v → length (xs ++ x ∷ []) ≡ suc v
-length-push [] x v h = ap suc h
-length-push (y ∷ xs) x v h = ap suc (length-push xs x (length xs) refl) ∙ ap suc h
-
-pub coordinates_met : (v : ℕ) (rows : List Kept) (ys : List ℚ) → coordinates v rows ≡ Ok ys → Each NonZero rows → Each (ZeroFrom v) rows → (length ys ≡ v) × Each (Met ys) rows
-coordinates_met zero rows ys h n z =
-    let e : ys ≡ [] = cc in
-    (ap length e, Each-both NonZero (ZeroFrom zero) (Met ys) (λ k a b. no_column ys k a b) rows n z)
+pub coordinates_met : (v : ℕ) (rows : List Kept) (ys : List ℚ) → coordinates v rows ≡ Ok ys → Each NonZero rows → Each (ZeroFrom v) rows → Each (Met ys) rows
+coordinates_met zero rows ys h n z = Each-both NonZero (ZeroFrom zero) (Met ys) (λ k a b. no_column ys k a b) rows n z
 coordinates_met (suc v) rows ys h n z =
     let s = after-ok (take_rows [] (without v rows)) (λ rest. after (coordinates v rest) (next v rows)) ys h in
     let rest = s.0 in
@@ -121,11 +112,10 @@ coordinates_met (suc v) rows ys h n z =
     let xs = t.0 in
     let nz : Each NonZero rest = rows_nonzero [] (without v rows) rest s.1 tt in
     let zf : Each (ZeroFrom v) rest = rows_kept (ZeroFrom v) [] (without v rows) rest s.1 (without_zero v rows z) tt in
-    let before = coordinates_met v rest xs t.1 nz zf in
-    let met = rows_met xs [] (without v rows) rest s.1 tt before.1 in
+    let met = rows_met xs [] (without v rows) rest s.1 tt (coordinates_met v rest xs t.1 nz zf) in
     let x : ℚ = between (map (bound v xs) (positives v rows)) (map (bound v xs) (negatives v rows)) in
     let e : ys ≡ xs ++ x ∷ [] = next_is _ (xs ++ x ∷ []) ys t.2 in
-    (ap length e ∙ length-push xs x v before.0, subst (λ (o : List ℚ). Each (Met o) rows) (sym e) (column_met v xs rows before.0 met.1))
+    subst (λ (o : List ℚ). Each (Met o) rows) (sym e) (column_met v xs rows (coordinates-long v rest xs t.1) met.1)
 
 -- ---- the coordinates over one denominator
 value-scaled : (r : List ℤ) (k : ℚ) (xs : List ℚ) → value r (map (λ q. k *ℚ q) xs) ≡ k *ℚ value r xs
@@ -187,7 +177,7 @@ elimination_meets s p sys h =
     let nz : Each NonZero rows = rows_nonzero [] ks rows one.1 tt in
     let zf : Each (ZeroFrom s.columns) rows = rows_kept (ZeroFrom s.columns) [] ks rows one.1 (started_zero s.columns 0 s.rows sys) tt in
     let met = coordinates_met s.columns rows qs two.1 nz zf in
-    let all = rows_met qs [] ks rows one.1 tt met.1 in
+    let all = rows_met qs [] ks rows one.1 tt met in
     subst (λ (o : List ℤ). All (λ r. MeetsWhole r o) s.rows) (sym e) (started_met qs 0 s.rows all.1)
 
 pub full_rows : (s : System) → IsRectangular s → HasFullRows s

@@ -1,5 +1,5 @@
 -- What the solver answers.
-use Rattle.std.specs.Prelude.{◌≡◌, ℤ, List, Result, Ok, Err}
+use Rattle.std.specs.Prelude.{◌≡◌, ℤ, List, length, Result, Ok, Err}
 use Rattle.crn_farkas.specs.Systems.{System, IsWholePoint, IsCertificate}
 use Rattle.crn_feasible.specs.declared.Verdict.{Verdict}
 use Rattle.crn_feasible.specs.declared.Verdict.TheVariants.{Found, Refuted}
@@ -19,3 +19,8 @@ Answers (Err Memory) r = Unit {0}
 abbrev pub IsTrueOf : System → Verdict → Type 0
 IsTrueOf s (Found p) = IsWholePoint s p
 IsTrueOf s (Refuted c) = IsCertificate s c
+
+-- the point has a number for each column
+abbrev pub IsLong : System → Verdict → Type 0
+IsLong s (Found p) = length p ≡ s.columns
+IsLong s (Refuted c) = Unit {0}

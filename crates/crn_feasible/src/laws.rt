@@ -6,9 +6,10 @@ ghost use Rattle.std.specs.List.{All};
 ghost use Rattle.crn_farkas.specs.Systems.{System, IsRectangular, IsWholePoint, IsCertificate};
 ghost use Rattle.crn_feasible.specs.Elimination.{elimination, refuted, passes, too_many, AreWithin};
 
-/// What elimination answers is true: its point meets the system, and its certificate is one. So a system has a point or a certificate wherever no limit is met.
+/// What elimination answers is true: its point meets the system and has a number for each column, and its certificate is one. So a system has a point or a certificate wherever no limit is met.
 pub fn answers()
     ensures point { (s : System) (p : List ℤ) → IsRectangular s → elimination s ≡ Ok p → IsWholePoint s p }
+    ensures long { (s : System) (p : List ℤ) → elimination s ≡ Ok p → length p ≡ s.columns }
     ensures certificate { (s : System) (c : List ℤ) → elimination s ≡ Err (refuted c) → IsCertificate s c }
 {}
 

@@ -4,7 +4,7 @@
 ghost use Rattle.std.specs.Prelude.{◌≡◌, length, Ok, IfOk};
 ghost use Rattle.crn_farkas.specs.Systems.{IsRectangular, IsWholePoint};
 ghost use Rattle.crn_feasible.specs.Elimination.{elimination};
-ghost use Rattle.crn_feasible.specs.Answers.{Answers, IsTrueOf};
+ghost use Rattle.crn_feasible.specs.Answers.{Answers, IsTrueOf, IsLong};
 ghost use Rattle.crn_feasible.specs.Steps.{Goes};
 
 use crn_farkas::{Certificate, System, holds};
@@ -46,6 +46,7 @@ pub enum SolveError {
 pub fn solve(alloc: Global, system: &System) -> Result<Verdict, SolveError>
     ensures answer { Answers result (elimination system.now.system) }
     ensures right { IfOk result (IsTrueOf system.now.system) }
+    ensures long { IfOk result (IsLong system.now.system) }
 {
     match eliminate(alloc, system) {
         Ok(point) => Ok(Verdict::Found(point)),
@@ -62,6 +63,7 @@ pub fn solve_near(alloc: Global, system: &System, hint: &Point) -> Result<Verdic
     ensures near { IsWholePoint system.now.system hint.now → result ≡ Ok (Verdict.Found hint.now) }
     ensures far { ¬ IsWholePoint system.now.system hint.now → Answers result (elimination system.now.system) }
     ensures right { IfOk result (IsTrueOf system.now.system) }
+    ensures long { IfOk result (IsLong system.now.system) }
 {
     if holds(system, hint) {
         return Ok(Verdict::Found(*hint));

@@ -72,9 +72,10 @@ impl Domain {
         }
     }
 
-    /// The rows that a point of the domain meets.
+    /// The rows that a point of the domain meets, of which there are at most 8.
     pub fn rows(&self) -> &[Row]
-        ensures { result.now ≡ self.now.rows }
+        ensures value { result.now ≡ self.now.rows }
+        ensures few { length self.now.rows ≤ 8 }
     {
         &self.rows[..self.count]
     }

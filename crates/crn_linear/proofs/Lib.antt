@@ -11,3 +11,5 @@ pub mod Multiples
 pub mod Unique
 pub mod WholePoints
 pub mod Distinct
+pub mod Opposites
+pub mod FormRows

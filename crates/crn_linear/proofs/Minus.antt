@@ -1,12 +1,12 @@
 -- Differences of forms, and the first that is not 0.
-use Rattle.std.proofs.Common.{◌≡◌, ◌≢◌, ⊎_elim, ℕ, zero, suc, ◌+◌, ◌<◌, ◌≤◌, List, [], ◌∷◌, length, get_or, take, drop, cond, refl, sym, ap, ap₂, subst, arith, add-one}
+use Rattle.std.proofs.Common.{◌≡◌, ◌≢◌, ⊎_elim, ℕ, zero, suc, ◌+◌, ◌<◌, ◌≤◌, List, [], ◌∷◌, length, get_or, take, drop, cond, refl, sym, ap, ap₂, ◌∙◌, subst, arith, add-one}
 use Rattle.std.specs.Prelude.{replicate, pos}
 use Rattle.std.specs.List.{All}
 use Rattle.std.proofs.lemmas.List.{length-replicate, take-replicate, drop-replicate}
-use Rattle.crn_fraction.specs.Rational.{ℚ, whole, 0ℚ, ◌-ℚ◌}
-use Rattle.crn_fraction.proofs.Ring.{sub_ℚ-zero}
+use Rattle.crn_fraction.specs.Rational.{ℚ, whole, 0ℚ, ◌+ℚ◌, ◌-ℚ◌, ◌*ℚ◌}
+use Rattle.crn_fraction.proofs.Ring.{ring_ℚ, q-writes, sub_ℚ-zero}
 use Rattle.crn_fraction.proofs.Products.{is_zero_ℚ_cases}
-use Rattle.crn_linear.specs.Forms.{entry_of, minus}
+use Rattle.crn_linear.specs.Forms.{at, entry_of, minus}
 use Rattle.crn_linear.specs.Cleared.{size_ℚ, pivot}
 use Rattle.crn_linear.specs.Views.{HasColumns, IsPadded}
 use Rattle.crn_linear.proofs.Values.{get_or-default}
@@ -23,6 +23,16 @@ entry-minus [] b i e h = absurd (omega arith)
 entry-minus (x ∷ a) [] i e h = absurd (omega (arith, e))
 entry-minus (x ∷ a) (y ∷ b) zero e h = refl
 entry-minus (x ∷ a) (y ∷ b) (suc i) e h = entry-minus a b i (omega (arith, e)) (omega arith)
+
+-- the value of the difference is the difference of the values
+pub at-minus : (a b x : List ℚ) → length a ≡ length b → at (minus a b) x ≡ at a x -ℚ at b x
+at-minus [] [] x e = sym (sub_ℚ-zero 0ℚ)
+at-minus [] (y ∷ b) x e = absurd (omega (arith, e))
+at-minus (c ∷ a) [] x e = absurd (omega (arith, e))
+at-minus (c ∷ a) (g ∷ b) [] e = sym (sub_ℚ-zero 0ℚ)
+at-minus (c ∷ a) (g ∷ b) (t ∷ x) e =
+    ap (λ z. (c -ℚ g) *ℚ t +ℚ z) (at-minus a b x (omega (arith, e)))
+    ∙ ring_ℚ (c ∷ g ∷ t ∷ at a x ∷ at b x ∷ []) {y = (c *ℚ t +ℚ at a x) -ℚ (g *ℚ t +ℚ at b x)} (search q-writes depth 20) (search q-writes depth 20) refl
 
 -- less as many zeros it is the form
 pub minus-zeros : (a : List ℚ) → minus a (replicate (length a) 0ℚ) ≡ a

@@ -135,10 +135,11 @@ pub cleared_only : (form : List ℚ) (row : List ℤ) → IsCleared form row →
 cleared_only form row c = one_cleared form row (cleared form) c (cleared_is form)
 
 -- ---- points that meet the row
-value-wholes : (row : List ℤ) (x : List ℚ) → value row x ≡ at (wholes row) x
-value-wholes [] x = refl
-value-wholes (a ∷ row) [] = refl
-value-wholes (a ∷ row) (t ∷ x) = ap (λ z. whole a *ℚ t +ℚ z) (value-wholes row x)
+-- the sum of a row's products is the value of the row as a form
+pub value-at : (row : List ℤ) (x : List ℚ) → value row x ≡ at (wholes row) x
+value-at [] x = refl
+value-at (a ∷ row) [] = refl
+value-at (a ∷ row) (t ∷ x) = ap (λ z. whole a *ℚ t +ℚ z) (value-at row x)
 
 at-multiple : (k : ℚ) (form x : List ℚ) → at (map (λ c. k *ℚ c) form) x ≡ k *ℚ at form x
 at-multiple k [] x = sym (*ℚ-zero k)
@@ -149,7 +150,7 @@ at-multiple k (c ∷ form) (t ∷ x) =
 
 -- the value of a multiple is the factor times the value of the form
 pub value-multiple : (form : List ℚ) (row : List ℤ) (m : IsMultiple form row) (x : List ℚ) → value row x ≡ m.factor *ℚ at form x
-value-multiple form row m x = value-wholes row x ∙ ap (λ f. at f x) m.same ∙ at-multiple m.factor form x
+value-multiple form row m x = value-at row x ∙ ap (λ f. at f x) m.same ∙ at-multiple m.factor form x
 
 below_times : (k a : ℚ) → 0ℚ <ℚ k → (strict : Bool) → IsBelow strict 0ℚ (k *ℚ a) ↔ IsBelow strict 0ℚ a
 below_times k a p true = (

@@ -1,12 +1,12 @@
--- The value of a form, product by product.
-use Rattle.std.proofs.Common.{◌≡◌, ℕ, zero, suc, ◌+◌, ◌<◌, ◌≤◌, List, [], ◌∷◌, length, get_or, take, refl, sym, subst, arith, add-one, ⊎_elim}
+-- The value of a form, product by product, and at a sum of points.
+use Rattle.std.proofs.Common.{◌≡◌, ℕ, zero, suc, ◌+◌, ◌<◌, ◌≤◌, List, [], ◌∷◌, length, get_or, take, refl, sym, ap, ◌∙◌, subst, arith, add-one, ⊎_elim}
 use Rattle.std.specs.Prelude.{pos}
 use Rattle.std.proofs.Math.Nat.{eq-or-lt_of_le}
 use Rattle.crn_fraction.specs.Rational.{ℚ, 0ℚ, ◌+ℚ◌, ◌*ℚ◌}
 use Rattle.crn_fraction.specs.Frac.{IsFrac}
 use Rattle.crn_fraction.specs.Parts.{num-whole, den-whole}
-use Rattle.crn_fraction.proofs.Ring.{ring_ℚ, q-writes}
-use Rattle.crn_linear.specs.Forms.{at, entry_of}
+use Rattle.crn_fraction.proofs.Ring.{ring_ℚ, q-writes, +ℚ-zero, zero-+ℚ}
+use Rattle.crn_linear.specs.Forms.{at, plus, entry_of}
 
 more : (i : ℕ) (a x : List ℚ) → i < length a → i < length x → at (take (suc i) a) (take (suc i) x) ≡ at (take i a) (take i x) +ℚ get_or a i 0ℚ *ℚ get_or x i 0ℚ
 more i [] x h k = absurd (omega arith)
@@ -50,3 +50,20 @@ reach_more a x i r p s = record {
   products = λ k h. ⊎_elim (λ e. subst (λ j. IsFrac (entry_of a j *ℚ entry_of x j)) (sym e) p) (λ l. r.products k l) (eq-or-lt_of_le {n = k} {m = i} (omega arith));
   sums = λ k h. ⊎_elim (λ e. subst (λ j. IsFrac (at (take j a) (take j x))) (sym e) s) (λ l. r.sums k (omega arith)) (eq-or-lt_of_le {n = k} {m = i + 1} h);
 }
+
+-- ---- sums
+sum_step : (c s t u v : ℚ) → c *ℚ (s +ℚ t) +ℚ (u +ℚ v) ≡ (c *ℚ s +ℚ u) +ℚ (c *ℚ t +ℚ v)
+sum_step c s t u v = ring_ℚ (c ∷ s ∷ t ∷ u ∷ v ∷ []) (search q-writes depth 20) (search q-writes depth 20) refl
+
+-- the value at a sum of points
+pub at-plus : (c p q : List ℚ) → at c (plus p q) ≡ at c p +ℚ at c q
+at-plus [] p q = sym (+ℚ-zero 0ℚ)
+at-plus (c ∷ cs) [] q = sym (zero-+ℚ (at (c ∷ cs) q))
+at-plus (c ∷ cs) (s ∷ p) [] = sym (+ℚ-zero (at (c ∷ cs) (s ∷ p)))
+at-plus (c ∷ cs) (s ∷ p) (t ∷ q) = ap (λ z. c *ℚ (s +ℚ t) +ℚ z) (at-plus cs p q) ∙ sum_step c s t (at cs p) (at cs q)
+
+-- the sum has as many columns
+pub length-plus : (p q : List ℚ) (n : ℕ) → length p ≡ n → length q ≡ n → length (plus p q) ≡ n
+length-plus [] q n e f = f
+length-plus (s ∷ p) [] n e f = e
+length-plus (s ∷ p) (t ∷ q) n e f = ap suc (length-plus p q (length p) refl (omega arith)) ∙ e

@@ -16,11 +16,17 @@ at (c ∷ form) (t ∷ x) = c *ℚ t +ℚ at form x
 abbrev pub wholes : List ℤ → List ℚ
 wholes p = map whole p
 
--- entry by entry, up to the end of the shorter list
+-- the difference, entry by entry, up to the end of the shorter list
 abbrev pub minus : List ℚ → List ℚ → List ℚ
 minus [] b = []
 minus (x ∷ a) [] = []
 minus (x ∷ a) (y ∷ b) = (x -ℚ y) ∷ minus a b
+
+-- the sum, entry by entry; a list stands for 0 past its end
+abbrev pub plus : List ℚ → List ℚ → List ℚ
+plus [] b = b
+plus (x ∷ a) [] = x ∷ a
+plus (x ∷ a) (y ∷ b) = (x +ℚ y) ∷ plus a b
 
 -- the entry of a form in a column
 abbrev pub entry_of : List ℚ → ℕ → ℚ

@@ -5,3 +5,4 @@ pub mod Views
 pub mod Strengths
 pub mod Fracs
 pub mod Equality
+pub mod FormRows

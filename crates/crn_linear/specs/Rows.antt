@@ -49,3 +49,7 @@ AreSmall xs = All IsSmall xs
 -- a row with every sign changed
 abbrev pub opposite_of : List ℤ → List ℤ
 opposite_of entries = map neg_ℤ entries
+
+-- what a row asks is violated: the row with every sign changed, strict
+abbrev pub violation : Row → Row
+violation row = record { entries = opposite_of row.entries; strict = true }

@@ -1,7 +1,7 @@
-use Rattle.std.proofs.Common.{arith, rules, sym, ap, ap₂, ◌∙◌, ◌≡◌, ◌≤◌, ◌^◌, ◌+◌, ◌*◌, subst, to_z, of_z, SFits, get_or, length}
+use Rattle.std.proofs.Common.{arith, rules, sym, ap, ap₂, ◌∙◌, ◌≡◌, ◌≤◌, ◌^◌, ◌+◌, ◌*◌, subst, to_z, SFits, get_or, length}
 use Rattle.std.specs.Prelude.{ℤ, pos, ◌*ℤ◌, unsigned_abs}
 use Rattle.std.specs.Int.{w64, w128}
-use Rattle.std.proofs.lemmas.Int.{ints, to_z-of_z}
+use Rattle.std.proofs.lemmas.Int.{to_z-of_z}
 use Rattle.std.proofs.lemmas.List.{length-map, get_or_read}
 use Rattle.std.proofs.Math.ListN.{get_or-map}
 use Rattle.crn_linear.specs.Rows.{Row}
