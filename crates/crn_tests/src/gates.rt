@@ -21,7 +21,7 @@ fn the_maximum_with_a_constant(rt: HostRuntime) -> Result<(), Fail> {
     let (builder, b) = builder.leaf(vec![in rt.alloc(); (three, constant)]?)?;
     let (builder, output) = builder.max(a, b)?;
     let network = builder.close(output)?;
-    assert_eq!(rt; printed(rt.alloc(), &network)?.as_str(), MAXIMUM);
+    assert!(rt; printed(rt.alloc(), &network)?.as_str() == MAXIMUM);
     Ok(())
 }
 
@@ -44,6 +44,6 @@ fn the_least_of_two_forms(rt: HostRuntime) -> Result<(), Fail> {
     let (builder, second) = builder.leaf_one(vec![in rt.alloc(); (three, second_of_x2)]?)?;
     let (builder, least) = builder.min_one(second, first)?;
     let network = builder.close_one(least)?;
-    assert_eq!(rt; printed(rt.alloc(), &network)?.as_str(), LEAST_OF_TWO_FORMS);
+    assert!(rt; printed(rt.alloc(), &network)?.as_str() == LEAST_OF_TWO_FORMS);
     Ok(())
 }

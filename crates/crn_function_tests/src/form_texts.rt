@@ -1,6 +1,6 @@
 //! Tests of crn_form_text.
 
-use crate::shared::{copies, joined, quotient};
+use crate::shared::quotient;
 use crn_form_text::{
     FormulaText, narrow, print_form, print_formula, print_fraction, read_form, read_formula,
     read_fraction, read_plain_form,
@@ -42,7 +42,7 @@ fn reads_forms(rt: HostRuntime) -> Result<(), Fail> {
         ("- 5 + 7 x 2", (0, 1), (7, 1), (-5, 1)),
     ] {
         let want = form(x1, x2, constant)?;
-        assert_eq!(rt; form_of(rt.alloc(), text)?, Some(want), "{text}");
+        assert!(rt; form_of(rt.alloc(), text)? == Some(want), "{text}");
     }
     Ok(())
 }
@@ -53,7 +53,7 @@ fn refuses_forms(rt: HostRuntime) -> Result<(), Fail> {
         "", "x3", "x0", "x1 + x1", "1 + 2", "+ x1", "x1 +", "3/0", "x1 x2", "- - x1", "x", "y1",
         "2/x1", "x1/2", "x1 + 2 3",
     ] {
-        assert_eq!(rt; form_of(rt.alloc(), text)?, None, "{text}");
+        assert!(rt; form_of(rt.alloc(), text)? == None, "{text}");
     }
     Ok(())
 }
@@ -62,7 +62,7 @@ fn refuses_forms(rt: HostRuntime) -> Result<(), Fail> {
 fn a_narrow_form(rt: HostRuntime) -> Result<(), Fail> {
     let (half, less) = (Frac::of(1, 2)?, Frac::of(-3, 1)?);
     let wide = Form::of(&[half, less, Frac::ZERO]);
-    assert_eq!(rt; narrow(&wide, 2), Form::of(&[half, less]));
+    assert!(rt; narrow(&wide, 2) == Form::of(&[half, less]));
     Ok(())
 }
 
@@ -88,7 +88,7 @@ fn numbers(rt: HostRuntime) -> Result<(), Fail> {
         ("-1", None),
         ("x1", None),
     ] {
-        assert_eq!(rt; number(rt.alloc(), text)?, want, "{text}");
+        assert!(rt; number(rt.alloc(), text)? == want, "{text}");
     }
     Ok(())
 }
@@ -113,14 +113,13 @@ fn forms_without_negative_coefficients(rt: HostRuntime) -> Result<(), Fail> {
         ("3/1x2 - x1", 0, 3, 5),
     ] {
         let form = Form::of(&[Frac::of(x1, 1)?, Frac::of(x2, 1)?]);
-        assert_eq!(rt;
-            plain_form(rt.alloc(), text)?,
-            Some((form, count)),
+        assert!(rt;
+            plain_form(rt.alloc(), text)? == Some((form, count)),
             "{text}"
         );
     }
     for text in ["-x1", "3", "x3"] {
-        assert_eq!(rt; plain_form(rt.alloc(), text)?, None, "{text}");
+        assert!(rt; plain_form(rt.alloc(), text)? == None, "{text}");
     }
     Ok(())
 }
@@ -159,7 +158,7 @@ fn reads_formulas(rt: HostRuntime) -> Result<(), Fail> {
         ("x1 + 0", 1, 1),
     ] {
         let want = Spelled::Formula { nodes, depth };
-        assert_eq!(rt; what_is_spelled(rt.alloc(), text)?, want, "{text}");
+        assert!(rt; what_is_spelled(rt.alloc(), text)? == want, "{text}");
     }
     Ok(())
 }
@@ -178,9 +177,8 @@ fn refuses_formulas(rt: HostRuntime) -> Result<(), Fail> {
         "mul(x1, x2)",
         "(x1)",
     ] {
-        assert_eq!(rt;
-            what_is_spelled(rt.alloc(), text)?,
-            Spelled::NoFormula,
+        assert!(rt;
+            what_is_spelled(rt.alloc(), text)? == Spelled::NoFormula,
             "{text}"
         );
     }
@@ -189,10 +187,9 @@ fn refuses_formulas(rt: HostRuntime) -> Result<(), Fail> {
 
 // So many times `scale(1,`, then `x1`, then so many times `)`.
 fn scaled(alloc: Global, opened: usize, closed: usize) -> Result<String, AllocError> {
-    let mut text = copies(alloc, "scale(1,", opened)?;
-    text.push_str("x1")?;
-    let end = copies(alloc, ")", closed)?;
-    joined(alloc, text.as_str(), end.as_str())
+    let scales = "scale(1,".repeat(alloc, opened)?;
+    let ends = ")".repeat(alloc, closed)?;
+    [scales.as_str(), "x1", ends.as_str()].concat(alloc)
 }
 
 #[test]
@@ -209,9 +206,8 @@ fn great_depths(rt: HostRuntime) -> Result<(), Fail> {
         (100_000, 99_999, Spelled::NoFormula),
     ] {
         let text = scaled(rt.alloc(), opened, closed)?;
-        assert_eq!(rt;
-            what_is_spelled(rt.alloc(), text.as_str())?,
-            want,
+        assert!(rt;
+            what_is_spelled(rt.alloc(), text.as_str())? == want,
             "{opened}"
         );
     }
@@ -223,7 +219,7 @@ fn prints_fractions(rt: HostRuntime) -> Result<(), Fail> {
     for (num, den, want) in [(-4, 6, "-2/3"), (3, 1, "3")] {
         let mut out = String::new(rt.alloc());
         print_fraction(&mut out, Frac::of(num, den)?)?;
-        assert_eq!(rt; out.as_str(), want);
+        assert!(rt; out.as_str() == want);
     }
     Ok(())
 }
@@ -239,7 +235,7 @@ fn prints_forms(rt: HostRuntime) -> Result<(), Fail> {
     ] {
         let mut out = String::new(rt.alloc());
         print_form(&mut out, &form(x1, x2, constant)?, 2)?;
-        assert_eq!(rt; out.as_str(), want);
+        assert!(rt; out.as_str() == want);
     }
     Ok(())
 }
@@ -253,6 +249,6 @@ fn prints_a_formula(rt: HostRuntime) -> Result<(), Fail> {
     let formula = Formula::Sub(Box::new(alloc, twice)?, Box::new(alloc, five)?);
     let mut out = String::new(alloc);
     print_formula(&mut out, &formula, 1)?;
-    assert_eq!(rt; out.as_str(), "sub(scale(2, x1), 5)");
+    assert!(rt; out.as_str() == "sub(scale(2, x1), 5)");
     Ok(())
 }

@@ -19,7 +19,7 @@ fn reads_all_of_plain_bytes(rt: HostRuntime) -> Result<(), Fail> {
     let alloc = rt.alloc();
     let mut source = PlainSource::new(bytes_of(alloc, b"some bytes")?);
     let bytes = read_all(alloc, &mut source, 10)?;
-    assert_eq!(rt; bytes.as_slice(), b"some bytes".as_slice());
+    assert!(rt; bytes.as_slice() == b"some bytes".as_slice());
     Ok(())
 }
 
@@ -27,9 +27,9 @@ fn reads_all_of_plain_bytes(rt: HostRuntime) -> Result<(), Fail> {
 fn stops_one_byte_after_the_limit(rt: HostRuntime) -> Result<(), Fail> {
     let alloc = rt.alloc();
     let mut source = PlainSource::new(bytes_of(alloc, b"some bytes")?);
-    assert_eq!(rt; read_all(alloc, &mut source, 6), Err(ReadAllError::TooLong));
+    assert!(rt; read_all(alloc, &mut source, 6) == Err(ReadAllError::TooLong));
     let rest = read_all(alloc, &mut source, 6)?;
-    assert_eq!(rt; rest.as_slice(), b"tes".as_slice());
+    assert!(rt; rest.as_slice() == b"tes".as_slice());
     Ok(())
 }
 
@@ -38,12 +38,12 @@ fn the_second_read_fails(rt: HostRuntime) -> Result<(), Fail> {
     let alloc = rt.alloc();
     let bytes = bytes_of(alloc, b"ten bytes and more")?;
     let mut source = MemSource::new(bytes, 8, vec![in alloc; 2]?);
-    assert_eq!(rt; source.faults(), 0);
-    assert_eq!(rt; read_all(alloc, &mut source, 100), Err(ReadAllError::Fault));
-    assert_eq!(rt; source.faults(), 1);
+    assert!(rt; source.faults() == 0);
+    assert!(rt; read_all(alloc, &mut source, 100) == Err(ReadAllError::Fault));
+    assert!(rt; source.faults() == 1);
     let rest = read_all(alloc, &mut source, 100)?;
-    assert_eq!(rt; rest.as_slice(), b"s and more".as_slice());
-    assert_eq!(rt; source.faults(), 1);
+    assert!(rt; rest.as_slice() == b"s and more".as_slice());
+    assert!(rt; source.faults() == 1);
     Ok(())
 }
 
@@ -51,15 +51,12 @@ fn the_second_read_fails(rt: HostRuntime) -> Result<(), Fail> {
 fn the_second_write_fails(rt: HostRuntime) -> Result<(), Fail> {
     let alloc = rt.alloc();
     let mut sink = MemSink::new(alloc, 100, 10, vec![in alloc; 2]?)?;
-    assert_eq!(rt;
-        write_all(&mut sink, b"species 16 reactions 13"),
-        Err(Failed)
-    );
-    assert_eq!(rt; sink.written(), b"species 16".as_slice());
-    assert_eq!(rt; sink.faults(), 1);
-    assert_eq!(rt; write_all(&mut sink, b" reactions 13"), Ok(()));
-    assert_eq!(rt; sink.written(), b"species 16 reactions 13".as_slice());
-    assert_eq!(rt; sink.faults(), 1);
+    assert!(rt; write_all(&mut sink, b"species 16 reactions 13") == Err(Failed));
+    assert!(rt; sink.written() == b"species 16".as_slice());
+    assert!(rt; sink.faults() == 1);
+    assert!(rt; write_all(&mut sink, b" reactions 13") == Ok(()));
+    assert!(rt; sink.written() == b"species 16 reactions 13".as_slice());
+    assert!(rt; sink.faults() == 1);
     Ok(())
 }
 
@@ -67,21 +64,21 @@ fn the_second_write_fails(rt: HostRuntime) -> Result<(), Fail> {
 fn a_full_sink_fails(rt: HostRuntime) -> Result<(), Fail> {
     let alloc = rt.alloc();
     let mut sink = MemSink::new(alloc, 4, 10, Vec::new(alloc))?;
-    assert_eq!(rt; write_all(&mut sink, b"four"), Ok(()));
-    assert_eq!(rt; write_all(&mut sink, b""), Ok(()));
-    assert_eq!(rt; sink.faults(), 0);
-    assert_eq!(rt; write_all(&mut sink, b"!"), Err(Failed));
-    assert_eq!(rt; sink.faults(), 1);
-    assert_eq!(rt; sink.written(), b"four".as_slice());
+    assert!(rt; write_all(&mut sink, b"four") == Ok(()));
+    assert!(rt; write_all(&mut sink, b"") == Ok(()));
+    assert!(rt; sink.faults() == 0);
+    assert!(rt; write_all(&mut sink, b"!") == Err(Failed));
+    assert!(rt; sink.faults() == 1);
+    assert!(rt; sink.written() == b"four".as_slice());
     Ok(())
 }
 
 #[test]
 fn counts_bytes(rt: HostRuntime) {
     let mut sink = CountSink::new();
-    assert_eq!(rt; write_all(&mut sink, b"seven b"), Ok(()));
-    assert_eq!(rt; write_all(&mut sink, b"three"), Ok(()));
-    assert_eq!(rt; sink.count(), 12);
+    assert!(rt; write_all(&mut sink, b"seven b") == Ok(()));
+    assert!(rt; write_all(&mut sink, b"three") == Ok(()));
+    assert!(rt; sink.count() == 12);
 }
 
 // A reader that gives two bytes a call, of "abcdef", and fails at one call.
@@ -111,15 +108,15 @@ fn reads_from_a_reader(rt: HostRuntime) -> Result<(), Fail> {
     let alloc = rt.alloc();
     let mut source = StdSource::new(b"of a slice".as_slice());
     let bytes = read_all(alloc, &mut source, 100)?;
-    assert_eq!(rt; bytes.as_slice(), b"of a slice".as_slice());
+    assert!(rt; bytes.as_slice() == b"of a slice".as_slice());
     let mut source = StdSource::new(Stumbling {
         at: 0,
         calls: 0,
         fails: 2,
     });
-    assert_eq!(rt; read_all(alloc, &mut source, 100), Err(ReadAllError::Fault));
+    assert!(rt; read_all(alloc, &mut source, 100) == Err(ReadAllError::Fault));
     let rest = read_all(alloc, &mut source, 100)?;
-    assert_eq!(rt; rest.as_slice(), b"cdef".as_slice());
+    assert!(rt; rest.as_slice() == b"cdef".as_slice());
     Ok(())
 }
 
@@ -171,9 +168,9 @@ fn writes_into_a_writer(rt: HostRuntime) -> Result<(), Fail> {
     let alloc = rt.alloc();
     let mut bytes = Vec::new(alloc);
     let mut sink = StdSink::new(&mut bytes);
-    assert_eq!(rt; write_all(&mut sink, b"into a vector"), Ok(()));
+    assert!(rt; write_all(&mut sink, b"into a vector") == Ok(()));
     drop(sink);
-    assert_eq!(rt; bytes.as_slice(), b"into a vector".as_slice());
+    assert!(rt; bytes.as_slice() == b"into a vector".as_slice());
     Ok(())
 }
 
@@ -191,9 +188,9 @@ fn a_writer_in_trouble_is_a_fault(rt: HostRuntime) -> Result<(), Fail> {
             trouble,
         };
         let mut sink = StdSink::new(&mut writer);
-        assert_eq!(rt; write_all(&mut sink, b"0123456789"), Err(Failed));
+        assert!(rt; write_all(&mut sink, b"0123456789") == Err(Failed));
         drop(sink);
-        assert_eq!(rt; writer.bytes.as_slice(), wanted);
+        assert!(rt; writer.bytes.as_slice() == wanted);
     }
     Ok(())
 }

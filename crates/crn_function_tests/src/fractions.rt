@@ -58,10 +58,10 @@ fn written(rt: HostRuntime) -> Result<(), Fail> {
         (-9, -6, "3/2"),
     ] {
         let written = Frac::of(num, den)?.to_string(rt.alloc())?;
-        assert_eq!(rt; written.as_str(), text);
+        assert!(rt; written.as_str() == text);
     }
     let refusal = TooBig.to_string(rt.alloc())?;
-    assert_eq!(rt; refusal.as_str(), "the fraction is too big");
+    assert!(rt; refusal.as_str() == "the fraction is too big");
     Ok(())
 }
 

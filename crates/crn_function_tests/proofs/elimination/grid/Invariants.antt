@@ -1,5 +1,5 @@
 use Rattle.std.proofs.Common.{◌≡◌, ◌+◌, length}
-use Rattle.crn_tests.proofs.elimination.grid.Given as goal
+use Rattle.crn_function_tests.proofs.elimination.grid.Given as goal
 
 abbrev pub invariant-loop-i : goal.invariant-loop-i
 invariant-loop-i l = record { columns : l.system.system.columns ≡ 4; room : l.system.room ≡ 129; rows : length l.system.system.rows ≡ l.i }

@@ -51,7 +51,7 @@ fn certificates(rt: HostRuntime) -> Result<(), Fail> {
         assert!(rt; check(&same, &certificate) == of_same, "{first} {second}");
     }
     let short = Certificate::of(vec![in rt.alloc(); 1]?);
-    assert_eq!(rt; short.multipliers(), [1].as_slice());
+    assert!(rt; short.multipliers() == [1].as_slice());
     assert!(rt; !check(&opposite, &short));
     Ok(())
 }
@@ -81,8 +81,8 @@ fn points(rt: HostRuntime) -> Result<(), Fail> {
     assert!(rt; holds(&system, &Point::of(&[-5, 4])));
     system.push(Row::of(&[1, 0], Strength::Strict));
     system.push(Row::of(&[-1, 1], Strength::Weak));
-    assert_eq!(rt; system.columns(), 2);
-    assert_eq!(rt; system.rows().len(), 2);
+    assert!(rt; system.columns() == 2);
+    assert!(rt; system.rows().len() == 2);
     assert!(rt; holds(&system, &Point::of(&[1, 1])));
     assert!(rt; !holds(&system, &Point::of(&[0, 1])));
     assert!(rt; !holds(&system, &Point::of(&[2, 1])));

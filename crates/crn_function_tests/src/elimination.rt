@@ -81,7 +81,7 @@ fn many_rows(rt: HostRuntime) -> Result<(), Fail> {
         assert!(rt; false, "4,160 rows");
         return Ok(());
     };
-    assert_eq!(rt; error, SolveError::TooManyRows);
+    assert!(rt; error == SolveError::TooManyRows);
     let within = grid(rt.alloc(), 64)?;
     assert!(rt; is_found(&solve(rt.alloc(), &within), &Point::of(&[0, 0, 2, -1])));
     Ok(())
