@@ -25,6 +25,8 @@ mod function_texts;
 #[cfg(test)]
 mod functions;
 #[cfg(test)]
+mod gated_functions;
+#[cfg(test)]
 mod gates;
 #[cfg(test)]
 mod jobs;
