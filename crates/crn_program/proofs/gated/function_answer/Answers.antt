@@ -1,6 +1,5 @@
 use Rattle.std.proofs.Common.{subst, refl}
 use Rattle.crn_grammar.specs.Table.{Read}
-use Rattle.crn_gated.specs.Reading.{gated_of}
 use Rattle.crn_program.specs.Answer.{IsNetworkAnswer}
 use Rattle.crn_program.specs.Finding.{Compiled}
 use Rattle.crn_program.proofs.gated.function_answer.Goals as goal
