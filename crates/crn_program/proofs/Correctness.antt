@@ -6,9 +6,10 @@ use Rattle.crn_token.specs.Plain.{plain_lines}
 use Rattle.crn_grammar.specs.Table as grammar
 use Rattle.crn_formula.specs.Pieces.{Piece, Covers, Agree}
 use Rattle.crn_formula.specs.Domains.{domain_for}
-use Rattle.crn_formula.specs.Functions.{Kind, ByPieces}
+use Rattle.crn_formula.specs.Functions.{ByPieces}
 use Rattle.crn_function_text.specs.Grammar.{PlainFunction}
-use Rattle.crn_net.specs.Network.{Network, Flow, AreAmounts, start, encoded, after_all, completion, completed, output}
+use Rattle.crn_net.specs.Network.{Network, AreAmounts, start, encoded, after_all, completion, completed, output}
+use Rattle.crn_net.specs.declared.Flow.{Flow}
 use Rattle.crn_compile.specs.Networks as networks
 use Rattle.crn_compile.specs.declared.CompileError.{CompileError}
 use Rattle.crn_compile.specs.declared.CompileError.TheVariants as cause
@@ -66,17 +67,17 @@ not_done (cause.TooManyCells count) is = is
 not_done (cause.TooManyNodes count) is = is
 not_done cause.Memory is = is
 
--- what is done of a text comes of its value
-abbrev ComesOf : {V : Type 0} → (List ℕ → grammar.Answer V (Counted × ℕ) → Type 0) → (V → Outcome → Type 0) → List ℕ → Finding → Type 0
+-- what has none of the statuses of a text that is not read comes of its value
+abbrev pub ComesOf : {V : Type 0} → (List ℕ → grammar.Answer V (Counted × ℕ) → Type 0) → (V → Outcome → Type 0) → List ℕ → Finding → Type 0
 ComesOf {V} IsRight Found bytes f = (v : V) × (o : Outcome) × IsRight bytes (grammar.Read v) × Found v o × (f ≡ Comes o)
 
-done_in_text : {V : Type 0} (IsRight : List ℕ → grammar.Answer V (Counted × ℕ) → Type 0) (Found : V → Outcome → Type 0) (bytes : List ℕ) (f : Finding)
-    → IsFoundInText IsRight Found bytes f → IsDone (status_of f) → ComesOf IsRight Found bytes f
-done_in_text IsRight Found bytes NoCommand found is = absurd found
-done_in_text IsRight Found bytes LongText found is = absurd is
-done_in_text IsRight Found bytes (WrongLine n) found is = absurd is
-done_in_text IsRight Found bytes (PastLimit what count) found is = absurd is
-done_in_text IsRight Found bytes (Comes o) found is = (found.1, o, found.2, found.3, refl)
+pub comes_in_text : {V : Type 0} (P : Status → Type 0) → (P status.TextTooLong → ⊥) → (P status.Malformed → ⊥) → (P status.Limit → ⊥) → (IsRight : List ℕ → grammar.Answer V (Counted × ℕ) → Type 0)
+    (Found : V → Outcome → Type 0) (bytes : List ℕ) (f : Finding) → IsFoundInText IsRight Found bytes f → P (status_of f) → ComesOf IsRight Found bytes f
+comes_in_text P long malformed limit IsRight Found bytes NoCommand found is = absurd found
+comes_in_text P long malformed limit IsRight Found bytes LongText found is = absurd (long is)
+comes_in_text P long malformed limit IsRight Found bytes (WrongLine n) found is = absurd (malformed is)
+comes_in_text P long malformed limit IsRight Found bytes (PastLimit what count) found is = absurd (limit is)
+comes_in_text P long malformed limit IsRight Found bytes (Comes o) found is = (found.1, o, found.2, found.3, refl)
 
 -- ---- what a text ends with
 
@@ -112,11 +113,10 @@ compiles bytes text f _ read found is text_is = absurd found
 completes_to : (net : Network) (xs : List ℚ) (us : List (List Flow)) (c : List ℚ) (v : ℚ) → IsCompleted net v (start net xs) us c → CompletesTo net xs us c v
 completes_to net xs us c v end = record { leads = end.run; completes = end.completes; output_is = end.value_is; settled = end.settled; fluxes = end.fluxes }
 
-abbrev IsDoneIn : PlainJob → Network → ℚ → List ℚ → Outcome → Type 0
-IsDoneIn job net value c o = (o ≡ Completed net c) × IsCompleted net value (start net job.amounts) job.segments c
-
 abbrev IsDoneJob : PlainJob → Outcome → Type 0
-IsDoneJob job o = (net : Network) × (value : ℚ) × (c : List ℚ) × IsNetworkOf job.function net × IsValue job.function (encoded net.rails job.amounts) value × IsDoneIn job net value c o
+IsDoneJob job o =
+    (net : Network) × (value : ℚ) × (c : List ℚ) × IsNetworkOf job.function net × IsValue job.function (encoded net.rails job.amounts) value × (o ≡ Completed net c)
+    × IsCompleted net value (start net job.amounts) job.segments c
 
 no_refusal_done : (net : Network) (c : List ℚ) (o : Outcome) → IsRefusedCompletion net c o → IsDone (status_of_outcome o) → ⊥
 no_refusal_done net c (Unfinished at) refused is = is
@@ -137,8 +137,8 @@ done_segments net value a us o found is = absurd (no_refusal_done net found.0 o 
 
 done_job : (job : PlainJob) (o : Outcome) → IsOutcomeOfJob job o → IsDone (status_of_outcome o) → IsDoneJob job o
 done_job job (NotCompiled k e) found is = absurd (not_done e is)
-done_job job o (net, value, network, value_is, found) is =
-    let (c, same, end) = done_segments net value (start net job.amounts) job.segments o found is in (net, value, c, network, value_is, same, end)
+done_job job o found is =
+    let (c, same, end) = done_segments found.0 found.1 (start found.0 job.amounts) job.segments o found.4 is in (found.0, found.1, c, found.2, found.3, same, end)
 
 completes : (bytes text : List ℕ) (job : PlainJob) (o : Outcome) → IsJobAnswer bytes (grammar.Read job) → IsOutcomeOfJob job o → IsDone (status_of_outcome o) → text ≡ text_of_outcome o → Completes bytes text
 completes bytes text job o read found is text_is =
@@ -252,27 +252,27 @@ module _ (words : List (List ℕ)) (bytes text : List ℕ) (answer : Answers wor
 
   pub compile_right : IsRow (OfText Compile) words → Compiles bytes text
   compile_right row =
-      let (f, o, read, found, is) = done_in_text IsFunctionAnswer IsOutcomeOfFunction bytes answer.finding (found_by words (OfText Compile) bytes answer.finding row answer.found) is_done in
+      let (f, o, read, found, is) = comes_in_text IsDone (λ d. d) (λ d. d) (λ d. d) IsFunctionAnswer IsOutcomeOfFunction bytes answer.finding (found_by words (OfText Compile) bytes answer.finding row answer.found) is_done in
       compiles bytes text f o read found (subst (λ g. IsDone (status_of g)) is is_done) (answer.text_is ∙ ap text_of is)
 
   pub complete_right : IsRow (OfText Complete) words → Completes bytes text
   complete_right row =
-      let (job, o, read, found, is) = done_in_text IsJobAnswer IsOutcomeOfJob bytes answer.finding (found_by words (OfText Complete) bytes answer.finding row answer.found) is_done in
+      let (job, o, read, found, is) = comes_in_text IsDone (λ d. d) (λ d. d) (λ d. d) IsJobAnswer IsOutcomeOfJob bytes answer.finding (found_by words (OfText Complete) bytes answer.finding row answer.found) is_done in
       completes bytes text job o read found (subst (λ g. IsDone (status_of g)) is is_done) (answer.text_is ∙ ap text_of is)
 
   pub run_right : IsRow (OfText Run) words → Runs bytes text
   run_right row =
-      let (job, o, read, found, is) = done_in_text IsRunAnswer IsOutcomeOfRunJob bytes answer.finding (found_by words (OfText Run) bytes answer.finding row answer.found) is_done in
+      let (job, o, read, found, is) = comes_in_text IsDone (λ d. d) (λ d. d) (λ d. d) IsRunAnswer IsOutcomeOfRunJob bytes answer.finding (found_by words (OfText Run) bytes answer.finding row answer.found) is_done in
       runs bytes text job o read found (subst (λ g. IsDone (status_of g)) is is_done) (answer.text_is ∙ ap text_of is)
 
   pub compile_gated_right : IsRow (OfText CompileGated) words → CompilesGated bytes text
   compile_gated_right row =
-      let (f, o, read, found, is) = done_in_text IsGatedAnswer IsOutcomeOfGated bytes answer.finding (found_by words (OfText CompileGated) bytes answer.finding row answer.found) is_done in
+      let (f, o, read, found, is) = comes_in_text IsDone (λ d. d) (λ d. d) (λ d. d) IsGatedAnswer IsOutcomeOfGated bytes answer.finding (found_by words (OfText CompileGated) bytes answer.finding row answer.found) is_done in
       compiles_gated bytes text f o read found (answer.text_is ∙ ap text_of is)
 
   pub complete_gated_right : IsRow (OfText CompleteGated) words → CompletesGated bytes text
   complete_gated_right row =
-      let (job, o, read, found, is) = done_in_text IsGatedJobAnswer IsOutcomeOfGatedJob bytes answer.finding (found_by words (OfText CompleteGated) bytes answer.finding row answer.found) is_done in
+      let (job, o, read, found, is) = comes_in_text IsDone (λ d. d) (λ d. d) (λ d. d) IsGatedJobAnswer IsOutcomeOfGatedJob bytes answer.finding (found_by words (OfText CompleteGated) bytes answer.finding row answer.found) is_done in
       completes_gated bytes text job o read found (subst (λ g. IsDone (status_of g)) is is_done) (answer.text_is ∙ ap text_of is)
 
   pub bulk_right : (n : ℕ) → IsRow (Bulk n) words → RunsBulk n text

@@ -8,10 +8,13 @@ use Rattle.crn_formula.specs.Pieces.{Piece, Covers, Agree}
 use Rattle.crn_formula.specs.Domains.{domain_for}
 use Rattle.crn_formula.specs.Functions.{ByPieces}
 use Rattle.crn_function_text.specs.Grammar.{PlainFunction}
-use Rattle.crn_net.specs.Network.{Network, Rails, Dual, Direct, Flow, AreAmounts, AreNotNegative, Run, IsSettled, StablyComputes, start, encoded, completion, completed, output}
+use Rattle.crn_net.specs.Network.{Network, AreAmounts, AreNotNegative, Run, IsSettled, StablyComputes, start, encoded, completion, completed, output}
 use Rattle.crn_net.specs.Totals.{total}
+use Rattle.crn_net.specs.declared.Flow.{Flow}
+use Rattle.crn_net.specs.declared.Rails.{Rails}
+use Rattle.crn_net.specs.declared.Rails.TheVariants.{Dual, Direct}
 use Rattle.crn_net_text.specs.NetworkText.{network_text}
-use Rattle.crn_job.specs.Grammar.{PlainJob}
+use Rattle.crn_job.specs.Grammar.{PlainJob, rails_of}
 use Rattle.crn_job.specs.RunGrammar.{PlainRunJob}
 use Rattle.crn_gated.specs.Completion.{gated_completion, gated_completed}
 use Rattle.crn_gated.specs.Computes.{StablyComputesGated}
@@ -27,7 +30,7 @@ use Rattle.crn_program.specs.Value.{IsValue, IsNetworkOf}
 
 -- ---- words
 
--- a point of k numbers, none negative where the network has one species an input
+-- a point of k numbers, none negative where there is one species an input, as for the least of forms
 abbrev pub IsInput : Rails → ℕ → List ℚ → Type 0
 IsInput Dual k x = length x ≡ k
 IsInput Direct k x = (length x ≡ k) × AreNotNegative x
@@ -61,7 +64,7 @@ pub record Compiles (bytes text : List ℕ) : Type 0 where
   pub net : Network
   pub read : IsFunctionAnswer bytes (Read function)
   pub network : IsNetworkOf function net
-  pub starts : (x : List ℚ) → IsInput net.rails function.variables x → (amounts : List ℚ) × AreAmounts net amounts × (encoded net.rails amounts ≡ x)
+  pub starts : (x : List ℚ) → IsInput (rails_of function.kind) function.variables x → (amounts : List ℚ) × AreAmounts net amounts × (encoded net.rails amounts ≡ x)
   pub computes : (amounts : List ℚ) → AreAmounts net amounts → (v : ℚ) × IsValue function (encoded net.rails amounts) v × StablyComputes net amounts v
   pub pieces : (ps : List Piece) → function.kind ≡ ByPieces ps → Covers (domain_for function.variables (ByPieces ps)) ps × Agree (domain_for function.variables (ByPieces ps)) ps
   pub written : text ≡ network_text net
