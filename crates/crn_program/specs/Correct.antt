@@ -48,7 +48,7 @@ pub record CompletesTo (net : Network) (amounts : List ℚ) (segments : List (Li
   pub settled : IsSettled net (completed net c) v
   pub fluxes : (r : ℕ) → 1 ≤ r → r ≤ length net.reactions → total segments r +ℚ total (completion net c) r ≡ total (completion net (start net amounts)) r
 
--- The same of a network with gates and of its gated completion. Of their fluxes nothing is said: another run may take another way to the same end.
+-- The same of a network with gates and of its gated completion, but for the fluxes, of which nothing is said.
 pub record CompletesGatedTo (net : Network) (amounts : List ℚ) (segments : List (List Flow)) (c : List ℚ) (v : ℚ) : Type 0 where
   pub leads : Run net (start net amounts) segments c
   pub completes : Run net c (gated_completion net c) (gated_completed net c)
@@ -94,9 +94,9 @@ pub record Runs (bytes text : List ℕ) : Type 0 where
   pub written : text ≡ run_report job.network state
   pub ends : EndsWithValue (output job.network state) text
 
--- `compile-gated`: the bytes are the text of a gated function, the least of forms of which some count as 0 while a variable is 0. A network is written with
--- that variable's copies as gates: whatever run comes first, the gated completion after it is a run to the value, which no further run changes. What is written
--- reads back as this network.
+-- `compile-gated`: the bytes are the text of a gated function, the least of forms of which some count as 0 while a variable is 0. A network is written:
+-- from every start, whatever run comes first, the gated completion after it is a run to the value there, which no further run changes. What is written reads back
+-- as this network.
 pub record CompilesGated (bytes text : List ℕ) : Type 0 where
   pub function : PlainGated
   pub net : Network
