@@ -8,7 +8,7 @@ use Rattle.crn_formula.specs.Pieces.{Piece, Covers, Agree}
 use Rattle.crn_formula.specs.Domains.{domain_for}
 use Rattle.crn_formula.specs.Functions.{ByPieces}
 use Rattle.crn_function_text.specs.Grammar.{PlainFunction}
-use Rattle.crn_net.specs.Network.{Network, start, encoded, after_all, completion, completed, output}
+use Rattle.crn_net.specs.Network.{Network, AreAmounts, start, encoded, after_all, completion, completed, output}
 use Rattle.crn_net.specs.declared.Flow.{Flow}
 use Rattle.crn_compile.specs.Networks as networks
 use Rattle.crn_compile.specs.declared.CompileError.{CompileError}
@@ -18,22 +18,31 @@ use Rattle.crn_segments.specs.declared.StepError.TheVariants as step
 use Rattle.crn_job.specs.Grammar.{PlainJob}
 use Rattle.crn_job.specs.RunGrammar.{PlainRunJob}
 use Rattle.crn_job.proofs.KeptJobs.{text_job}
+use Rattle.crn_gated.specs.Completion.{gated_completion, gated_completed}
+use Rattle.crn_gated.specs.Computes.{StablyComputesGated}
+use Rattle.crn_gated.specs.Forms.{gated_value}
+use Rattle.crn_gated.specs.Grammar.{PlainGated}
+use Rattle.crn_gated.specs.JobGrammar.{PlainGatedJob}
+use Rattle.crn_gated.specs.Layout.{gated_layout}
+use Rattle.crn_gated.proofs.KeptJobs.{text_gated_job}
 use Rattle.crn_bulk.specs.Generator.{bulk_job, bulk_number}
-use Rattle.crn_program.specs.Answer.{Answers, IsFunctionAnswer, IsNetworkAnswer, IsJobAnswer, IsRunAnswer, IsFoundInText, IsFoundWithoutText, IsOutcomeOfFunction, IsOutcomeOfJob, IsOutcomeOfRunJob, IsOutcomeOfHalves, IsOutcomeOfBulk}
+use Rattle.crn_program.specs.Answer.{Answers, IsFunctionAnswer, IsNetworkAnswer, IsJobAnswer, IsRunAnswer, IsGatedAnswer, IsGatedJobAnswer, IsFoundInText, IsFoundWithoutText, IsOutcomeOfFunction, IsOutcomeOfJob, IsOutcomeOfRunJob, IsOutcomeOfGated, IsOutcomeOfGatedJob, IsOutcomeOfHalves, IsOutcomeOfBulk}
 use Rattle.crn_program.specs.Bulk.{halves}
-use Rattle.crn_program.specs.Correct.{CompletesTo, Compiles, Completes, Runs, RunsBulk, EndsWithValue}
-use Rattle.crn_program.specs.Finding.{Outcome, NotCompiled, RefusedSegment, Unfinished, NoValue, Compiled, Completed, Ran, UnfitStep, Bulked, Finding, NoCommand, LongText, WrongLine, PastLimit, Comes, status_of, status_of_outcome, status_of_cause, status_of_step, text_of, text_of_outcome}
-use Rattle.crn_program.specs.Report.{EndsWith, value_line, run_report}
+use Rattle.crn_program.specs.Correct.{CompletesTo, CompletesGatedTo, Compiles, Completes, Runs, CompilesGated, CompletesGated, RunsBulk, EndsWithValue}
+use Rattle.crn_program.specs.Finding.{Outcome, NotCompiled, RefusedSegment, Unfinished, NoValue, Compiled, Completed, CompletedGated, Ran, UnfitStep, Bulked, Finding, NoCommand, LongText, WrongLine, PastLimit, Comes, status_of, status_of_outcome, status_of_cause, status_of_step, text_of, text_of_outcome}
+use Rattle.crn_program.specs.Report.{EndsWith, value_line, completion_report, run_report}
+use Rattle.crn_program.specs.Gated.{IsCompletedGated}
 use Rattle.crn_program.specs.Runs.{IsCompleted, IsRefusedCompletion, IsOutcomeOfSegments}
 use Rattle.crn_program.specs.Value.{IsValue, IsNetworkOf}
 use Rattle.crn_program.specs.Words.{IsRow}
 use Rattle.crn_program.specs.declared.words.Command.TheVariants.{OfText, Bulk}
-use Rattle.crn_program.specs.declared.words.TextCommand.TheVariants.{Compile, Complete, Run}
+use Rattle.crn_program.specs.declared.words.TextCommand.TheVariants.{Compile, Complete, Run, CompileGated, CompleteGated}
 use Rattle.crn_program.specs.declared.status.Status.{Status}
 use Rattle.crn_program.specs.declared.status.Status.TheVariants as status
 use Rattle.crn_program.proofs.Computing.{computes_value, job_amounts}
 use Rattle.crn_program.proofs.Encoding.{starts_encode}
 use Rattle.crn_program.proofs.Endings.{found_by}
+use Rattle.crn_program.proofs.GatedJobs.{gated_amounts}
 use Rattle.crn_program.proofs.ReportLaws.{completion_ends, run_ends, bulk_ends}
 
 -- ---- what is done
@@ -160,6 +169,48 @@ runs bytes text job (Ran n c) read found is text_is =
     record { job = job; state = c; read = read; leads = found.1.run; written = written; ends = ends_with job.network c (output job.network c) _ text refl written (run_ends job.network c) }
 runs bytes text job _ read found is text_is = absurd found
 
+-- ---- `compile-gated` and `complete-gated`
+
+compiles_gated : (bytes text : List ℕ) (f : PlainGated) (o : Outcome) → IsGatedAnswer bytes (grammar.Read f) → IsOutcomeOfGated f o → text ≡ text_of_outcome o → CompilesGated bytes text
+compiles_gated bytes text f (Compiled net) read found text_is = record {
+  function = f;
+  net = net;
+  read = read;
+  network = found.network;
+  starts = λ x long low. subst (λ n. AreAmounts n x) (sym found.network) (gated_amounts f.variables f.forms x long low);
+  computes = λ x amounts. subst (λ y. StablyComputesGated net x (gated_value f.forms y)) (ap (λ (n : Network). encoded n.rails x) found.network) (found.computes x amounts);
+  written = text_is;
+  reads_back = subst (λ t. IsNetworkAnswer t (grammar.Read net)) (sym text_is) found.reads_back;
+}
+compiles_gated bytes text f _ read found text_is = absurd found
+
+completes_gated_to : (net : Network) (xs : List ℚ) (us : List (List Flow)) (c : List ℚ) (v : ℚ) → IsCompletedGated net v (start net xs) us c → CompletesGatedTo net xs us c v
+completes_gated_to net xs us c v end = record { leads = end.run; completes = end.completes; output_is = end.value_is; settled = end.settled }
+
+completes_gated : (bytes text : List ℕ) (job : PlainGatedJob) (o : Outcome) → IsGatedJobAnswer bytes (grammar.Read job) → IsOutcomeOfGatedJob job o → IsDone (status_of_outcome o) → text ≡ text_of_outcome o
+    → CompletesGated bytes text
+completes_gated bytes text job (RefusedSegment t e) read found is text_is = absurd (no_step_done e is)
+completes_gated bytes text job (Unfinished at) read found is text_is = absurd is
+completes_gated bytes text job (CompletedGated n c) read found is text_is =
+    let net = gated_layout job.function.variables job.function.forms in
+    let value = gated_value job.function.forms job.amounts in
+    let written = text_is ∙ ap (λ m. completion_report m c (gated_completion m c) (gated_completed m c)) found.0 in
+    let fits = text_gated_job (plain_lines bytes) job read.0 read.1 in
+    record {
+      job = job;
+      net = net;
+      state = c;
+      value = value;
+      read = read;
+      network = refl;
+      amounts = gated_amounts job.function.variables job.function.forms job.amounts fits.long fits.not_negative;
+      value_is = refl;
+      completes = completes_gated_to net job.amounts job.segments c value found.1;
+      written = written;
+      ends = ends_with net (gated_completed net c) value _ text found.1.value_is written (completion_ends net c (gated_completion net c) (gated_completed net c));
+    }
+completes_gated bytes text job _ read found is text_is = absurd found
+
 -- ---- `bulk`
 
 abbrev IsDoneBulk : Network → ℚ → List ℚ → (z n : ℕ) → Outcome → Type 0
@@ -213,6 +264,16 @@ module _ (words : List (List ℕ)) (bytes text : List ℕ) (answer : Answers wor
   run_right row =
       let (job, o, read, found, is) = comes_in_text IsDone (λ d. d) (λ d. d) (λ d. d) IsRunAnswer IsOutcomeOfRunJob bytes answer.finding (found_by words (OfText Run) bytes answer.finding row answer.found) is_done in
       runs bytes text job o read found (subst (λ g. IsDone (status_of g)) is is_done) (answer.text_is ∙ ap text_of is)
+
+  pub compile_gated_right : IsRow (OfText CompileGated) words → CompilesGated bytes text
+  compile_gated_right row =
+      let (f, o, read, found, is) = comes_in_text IsDone (λ d. d) (λ d. d) (λ d. d) IsGatedAnswer IsOutcomeOfGated bytes answer.finding (found_by words (OfText CompileGated) bytes answer.finding row answer.found) is_done in
+      compiles_gated bytes text f o read found (answer.text_is ∙ ap text_of is)
+
+  pub complete_gated_right : IsRow (OfText CompleteGated) words → CompletesGated bytes text
+  complete_gated_right row =
+      let (job, o, read, found, is) = comes_in_text IsDone (λ d. d) (λ d. d) (λ d. d) IsGatedJobAnswer IsOutcomeOfGatedJob bytes answer.finding (found_by words (OfText CompleteGated) bytes answer.finding row answer.found) is_done in
+      completes_gated bytes text job o read found (subst (λ g. IsDone (status_of g)) is is_done) (answer.text_is ∙ ap text_of is)
 
   pub bulk_right : (n : ℕ) → IsRow (Bulk n) words → RunsBulk n text
   bulk_right n row = bulk_found n bytes text answer.finding (found_by words (Bulk n) bytes answer.finding row answer.found) is_done answer.text_is

@@ -24,8 +24,12 @@ use Rattle.crn_segments.proofs.Steps.{legal_goes}
 use Rattle.crn_job.specs.Grammar.{PlainJob}
 use Rattle.crn_job.specs.RunGrammar.{PlainRunJob}
 use Rattle.crn_job.proofs.KeptJobs.{text_job, text_run_job}
-use Rattle.crn_program.specs.Answer.{Answers, IsFunctionAnswer, IsJobAnswer, IsRunAnswer, IsOutcomeOfFunction, IsOutcomeOfJob, IsOutcomeOfRunJob}
-use Rattle.crn_program.specs.Finding.{Outcome, NotCompiled, RefusedSegment, Unfinished, NoValue, Compiled, Completed, Ran, status_of, status_of_outcome, status_of_cause, status_of_step, text_of, text_of_outcome, text_of_cause, step_words}
+use Rattle.crn_gated.specs.JobGrammar.{PlainGatedJob}
+use Rattle.crn_gated.specs.Layout.{gated_layout}
+use Rattle.crn_gated.proofs.KeptJobs.{text_gated_job}
+use Rattle.crn_gated.proofs.LayoutLaws.{layout_is_valid}
+use Rattle.crn_program.specs.Answer.{Answers, IsFunctionAnswer, IsJobAnswer, IsRunAnswer, IsGatedJobAnswer, IsOutcomeOfFunction, IsOutcomeOfJob, IsOutcomeOfRunJob, IsOutcomeOfGatedJob}
+use Rattle.crn_program.specs.Finding.{Outcome, NotCompiled, RefusedSegment, Unfinished, NoValue, Compiled, Completed, CompletedGated, Ran, status_of, status_of_outcome, status_of_cause, status_of_step, text_of, text_of_outcome, text_of_cause, step_words}
 use Rattle.crn_program.specs.Refused.{RefusesSegment, RefusesPair, RefusesGap}
 use Rattle.crn_program.specs.Report.{refusal}
 use Rattle.crn_program.specs.Runs.{IsRefused, IsRefusedCompletion, IsOutcomeOfSegments}
@@ -33,7 +37,7 @@ use Rattle.crn_program.specs.Statuses.{IsOfRun}
 use Rattle.crn_program.specs.Value.{IsNetworkOf, IsNotCompiled}
 use Rattle.crn_program.specs.Words.{IsRow}
 use Rattle.crn_program.specs.declared.words.Command.TheVariants.{OfText}
-use Rattle.crn_program.specs.declared.words.TextCommand.TheVariants.{Compile, Complete, Run}
+use Rattle.crn_program.specs.declared.words.TextCommand.TheVariants.{Compile, Complete, Run, CompleteGated}
 use Rattle.crn_program.specs.declared.status.Status.{Status}
 use Rattle.crn_program.specs.declared.status.Status.TheVariants as status
 use Rattle.crn_program.proofs.Correctness.{comes_in_text}
@@ -189,6 +193,20 @@ segment_of_run bytes text job NoValue read found is text_is = absurd is
 segment_of_run bytes text job (Ran n c) read found is text_is = absurd is
 segment_of_run bytes text job _ read found is text_is = absurd found
 
+abbrev RefusesInGated : PlainGatedJob → List ℕ → Type 0
+RefusesInGated job text = (net : Network) × (net ≡ gated_layout job.function.variables job.function.forms) × RefusesSegment net (start net job.amounts) job.segments text
+
+segment_of_gated_job : (bytes text : List ℕ) (job : PlainGatedJob) (o : Outcome) → IsGatedJobAnswer bytes (grammar.Read job) → IsOutcomeOfGatedJob job o → IsIllegal (status_of_outcome o) → text ≡ text_of_outcome o
+    → RefusesInGated job text
+segment_of_gated_job bytes text job (RefusedSegment t e) read found is text_is =
+    let net = gated_layout job.function.variables job.function.forms in
+    let fits = text_gated_job (plain_lines bytes) job read.0 read.1 in
+    let ok = (layout_is_valid job.function.variables job.function.forms fits.function).network in
+    (net, refl, segment_refused net (start net job.amounts) job.segments t e text ok fits.segments found is text_is)
+segment_of_gated_job bytes text job (Unfinished at) read found is text_is = absurd is
+segment_of_gated_job bytes text job (CompletedGated n c) read found is text_is = absurd is
+segment_of_gated_job bytes text job _ read found is text_is = absurd found
+
 -- ---- the laws
 
 module _ (words : List (List ℕ)) (bytes text : List ℕ) (s : Status) (answer : Answers words bytes s text) where
@@ -207,6 +225,16 @@ module _ (words : List (List ℕ)) (bytes text : List ℕ) (s : Status) (answer 
       let (job, o, read, found, is) =
       comes_in_text IsIllegal (λ p. p) (λ p. p) (λ p. p) IsRunAnswer IsOutcomeOfRunJob bytes answer.finding (found_by words (OfText Run) bytes answer.finding row answer.found) illegal in
       (job, read, segment_of_run bytes text job o read found (subst (λ g. IsIllegal (status_of g)) is illegal) (answer.text_is ∙ ap text_of is))
+
+  pub gated_segment_right : IsRow (OfText CompleteGated) words → s ≡ status.Illegal
+      → (job : PlainGatedJob) × IsGatedJobAnswer bytes (grammar.Read job) × (net : Network) × (net ≡ gated_layout job.function.variables job.function.forms)
+      × RefusesSegment net (start net job.amounts) job.segments text
+  gated_segment_right row told_so =
+      let illegal = subst IsIllegal (sym told_so ∙ answer.status_is) tt in
+      let (job, o, read, found, is) =
+      comes_in_text IsIllegal (λ p. p) (λ p. p) (λ p. p) IsGatedJobAnswer IsOutcomeOfGatedJob bytes answer.finding (found_by words (OfText CompleteGated) bytes answer.finding row answer.found) illegal in
+      let (net, network, refuses) = segment_of_gated_job bytes text job o read found (subst (λ g. IsIllegal (status_of g)) is illegal) (answer.text_is ∙ ap text_of is) in
+      (job, read, net, network, refuses)
 
   pub pair_right : IsRow (OfText Compile) words → s ≡ status.Disagree → (f : PlainFunction) × IsFunctionAnswer bytes (grammar.Read f) × RefusesPair f text
   pair_right row told_so =

@@ -16,8 +16,14 @@ use Rattle.crn_net.specs.declared.Rails.TheVariants.{Dual, Direct}
 use Rattle.crn_net_text.specs.NetworkText.{network_text}
 use Rattle.crn_job.specs.Grammar.{PlainJob, rails_of}
 use Rattle.crn_job.specs.RunGrammar.{PlainRunJob}
+use Rattle.crn_gated.specs.Completion.{gated_completion, gated_completed}
+use Rattle.crn_gated.specs.Computes.{StablyComputesGated}
+use Rattle.crn_gated.specs.Forms.{gated_value}
+use Rattle.crn_gated.specs.Grammar.{PlainGated}
+use Rattle.crn_gated.specs.JobGrammar.{PlainGatedJob}
+use Rattle.crn_gated.specs.Layout.{gated_layout}
 use Rattle.crn_bulk.specs.Generator.{bulk_job, bulk_number}
-use Rattle.crn_program.specs.Answer.{IsFunctionAnswer, IsNetworkAnswer, IsJobAnswer, IsRunAnswer}
+use Rattle.crn_program.specs.Answer.{IsFunctionAnswer, IsNetworkAnswer, IsJobAnswer, IsRunAnswer, IsGatedAnswer, IsGatedJobAnswer}
 use Rattle.crn_program.specs.Bulk.{halves}
 use Rattle.crn_program.specs.Report.{EndsWith, line, completion_report, run_report, bulk_report}
 use Rattle.crn_program.specs.Value.{IsValue, IsNetworkOf}
@@ -41,6 +47,13 @@ pub record CompletesTo (net : Network) (amounts : List ℚ) (segments : List (Li
   pub output_is : output net (completed net c) ≡ v
   pub settled : IsSettled net (completed net c) v
   pub fluxes : (r : ℕ) → 1 ≤ r → r ≤ length net.reactions → total segments r +ℚ total (completion net c) r ≡ total (completion net (start net amounts)) r
+
+-- The same of a network with gates and of its gated completion, but for the fluxes, of which nothing is said.
+pub record CompletesGatedTo (net : Network) (amounts : List ℚ) (segments : List (List Flow)) (c : List ℚ) (v : ℚ) : Type 0 where
+  pub leads : Run net (start net amounts) segments c
+  pub completes : Run net c (gated_completion net c) (gated_completed net c)
+  pub output_is : output net (gated_completed net c) ≡ v
+  pub settled : IsSettled net (gated_completed net c) v
 
 -- ---- the commands
 
@@ -80,6 +93,34 @@ pub record Runs (bytes text : List ℕ) : Type 0 where
   pub leads : Run job.network job.state job.segments state
   pub written : text ≡ run_report job.network state
   pub ends : EndsWithValue (output job.network state) text
+
+-- `compile-gated`: the bytes are the text of a gated function, the least of forms of which some count as 0 while a variable is 0. A network is written:
+-- from every start, whatever run comes first, the gated completion after it is a run to the value there, which no further run changes. What is written reads back
+-- as this network.
+pub record CompilesGated (bytes text : List ℕ) : Type 0 where
+  pub function : PlainGated
+  pub net : Network
+  pub read : IsGatedAnswer bytes (Read function)
+  pub network : net ≡ gated_layout function.variables function.forms
+  pub starts : (x : List ℚ) → length x ≡ function.variables → AreNotNegative x → AreAmounts net x
+  pub computes : (x : List ℚ) → AreAmounts net x → StablyComputesGated net x (gated_value function.forms x)
+  pub written : text ≡ network_text net
+  pub reads_back : IsNetworkAnswer text (Read net)
+
+-- `complete-gated`: the bytes are the text of a job of such a function, and the network that `compile-gated` writes of it is completed after its segments. The
+-- value of the function at the amounts is written last.
+pub record CompletesGated (bytes text : List ℕ) : Type 0 where
+  pub job : PlainGatedJob
+  pub net : Network
+  pub state : List ℚ
+  pub value : ℚ
+  pub read : IsGatedJobAnswer bytes (Read job)
+  pub network : net ≡ gated_layout job.function.variables job.function.forms
+  pub amounts : AreAmounts net job.amounts
+  pub value_is : value ≡ gated_value job.function.forms job.amounts
+  pub completes : CompletesGatedTo net job.amounts job.segments state value
+  pub written : text ≡ completion_report net state (gated_completion net state) (gated_completed net state)
+  pub ends : EndsWithValue value text
 
 -- `bulk n`: the same as `complete` of a formula, amounts and segments that are drawn; no text is read.
 pub record RunsBulk (n : ℕ) (text : List ℕ) : Type 0 where

@@ -13,6 +13,8 @@ mod drawn_jobs;
 #[cfg(test)]
 mod formula_networks;
 #[cfg(test)]
+mod gated_functions;
+#[cfg(test)]
 mod gates;
 #[cfg(test)]
 mod jobs;
