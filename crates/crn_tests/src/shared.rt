@@ -170,6 +170,15 @@ pub fn printed(alloc: Global, network: &Network) -> Result<String, Fail> {
     Ok(String::from_utf8(print_network(alloc, network)?)?)
 }
 
+/// So many copies of a text.
+pub fn copies(alloc: Global, part: &str, count: usize) -> Result<String, AllocError> {
+    let mut text = String::new(alloc);
+    for _ in 0..count {
+        text.push_str(part)?;
+    }
+    Ok(text)
+}
+
 /// The least of so many variables by pieces: each variable where it is at most each of the others.
 pub fn least_of_variables(alloc: Global, count: u32) -> Result<String, AllocError> {
     let mut text = format!(in alloc; "function pieces\nvariables {count}\n")?;
