@@ -163,6 +163,3 @@ pub fn bulk_job(alloc: Global, size: u32) -> Result<(Job, u32), AllocError>
     };
     Ok((job, z))
 }
-
-#[cfg(test)]
-mod tests;

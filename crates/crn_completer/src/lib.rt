@@ -182,6 +182,3 @@ fn whole(count: i64) -> Frac
 {
     Frac::of(count, 1).unwrap()
 }
-
-#[cfg(test)]
-mod tests;

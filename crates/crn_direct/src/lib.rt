@@ -7,7 +7,4 @@
 mod compile;
 pub mod laws;
 
-pub use compile::compile_direct;
-
-#[cfg(test)]
-mod tests;
+pub use compile::{compile_direct, push_variables, terms_on};

@@ -8,6 +8,3 @@ mod compile;
 pub mod laws;
 
 pub use compile::compile_formula;
-
-#[cfg(test)]
-mod tests;

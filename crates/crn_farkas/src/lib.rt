@@ -238,6 +238,3 @@ fn product(a: i64, b: i64) -> i128
 {
     a as i128 * b as i128
 }
-
-#[cfg(test)]
-mod tests;

@@ -80,6 +80,3 @@ fn eliminate(alloc: Global, system: &System) -> Result<Point, Ending>
     let values = values::coordinates(alloc, &rows, columns)?;
     Ok(Point::of(&values.tops))
 }
-
-#[cfg(test)]
-mod tests;

@@ -13,6 +13,3 @@ pub use formula::{FormulaText, read_formula};
 pub use laws::{one_meaning, plain_forms_are_nonnegative, printed_reads_back, printed_spells};
 pub use number::read_fraction;
 pub use print::{print_form, print_formula, print_fraction};
-
-#[cfg(test)]
-mod tests;

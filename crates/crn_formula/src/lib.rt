@@ -12,6 +12,3 @@ pub use domain::Domain;
 pub use formula::{Formula, has_constant};
 pub use function::{Function, FunctionKind, ValueError, count_conditions};
 pub use pieces::{Piece, some_piece_has_constant};
-
-#[cfg(test)]
-mod tests;

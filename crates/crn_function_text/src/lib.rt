@@ -120,6 +120,3 @@ fn read_text(alloc: Global, bytes: &[u8]) -> Result<Function, FunctionTextError>
     }
     Ok(function)
 }
-
-#[cfg(test)]
-mod tests;

@@ -233,6 +233,3 @@ fn read_run_tail(
     }
     Ok(tail.value())
 }
-
-#[cfg(test)]
-mod tests;

@@ -499,6 +499,3 @@ fn nine(entries: &[i64]) -> [i64; 9]
     }
     places
 }
-
-#[cfg(test)]
-mod tests;

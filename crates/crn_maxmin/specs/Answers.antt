@@ -19,10 +19,12 @@ use Rattle.crn_cells.specs.declared.CellsError.TheVariants as cells
 use Rattle.crn_maxmin.specs.declared.MaxminError.{MaxminError}
 use Rattle.crn_maxmin.specs.declared.MaxminError.TheVariants.{TooBig, TooManyRows, TooManyCells, TooManyNodes, Memory}
 
--- a system that may be asked: a pair system, where all pieces agree a cover system, and where they also cover the domain an order system
+-- a system that may be asked: a pair system; where all pieces agree, a cover system; where they also cover the domain, an order system
 abbrev pub IsAsked : Domain → List Piece → System → Type 0
 IsAsked domain pieces s =
-    IsAskedPair domain pieces s ⊎ ((Agree domain pieces × IsAskedCover domain (rows_of pieces) s) ⊎ (Covers domain pieces × Agree domain pieces × IsAskedOrder domain (numbered_forms pieces) s))
+    IsAskedPair domain pieces s
+    ⊎ ((Agree domain pieces × IsAskedCover domain (rows_of pieces) s)
+    ⊎ (Covers domain pieces × Agree domain pieces × IsAskedOrder domain (numbered_forms pieces) s))
 
 -- the formula of all cells of the pieces, of which there are at most 4,096
 pub record IsFormulaOf (domain : Domain) (pieces : List Piece) (f : Formula) : Type 0 where
@@ -33,12 +35,14 @@ pub record IsFormulaOf (domain : Domain) (pieces : List Piece) (f : Formula) : T
 
 -- it has so many nodes, which are more than 2,048
 abbrev pub HasTooManyNodes : Domain → List Piece → ℕ → Type 0
-HasTooManyNodes domain pieces count = (f : Formula) × IsFormulaOf domain pieces f × (count ≡ node_count f) × (2048 < count)
+HasTooManyNodes domain pieces count =
+    (f : Formula) × IsFormulaOf domain pieces f × (count ≡ node_count f) × (2048 < count)
 
 -- why there is no formula
 abbrev pub IsRefused : Domain → List Piece → MaxminError → Type 0
 IsRefused domain pieces (TooBig kept) = IsAsked domain pieces kept.system × (elimination kept.system ≡ Err passes)
-IsRefused domain pieces (TooManyRows kept) = IsAsked domain pieces kept.system × (elimination kept.system ≡ Err too_many)
+IsRefused domain pieces (TooManyRows kept) =
+    IsAsked domain pieces kept.system × (elimination kept.system ≡ Err too_many)
 IsRefused domain pieces (TooManyCells count) = (count ≡ 4097) × AreTooManyCells domain (numbered_forms pieces)
 IsRefused domain pieces (TooManyNodes count) = HasTooManyNodes domain pieces count
 IsRefused domain pieces Memory = Unit {0}
@@ -54,8 +58,8 @@ refusal_of cells.Memory = Memory
 abbrev pub HasValue : Domain → List Piece → Formula → Type 0
 HasValue domain pieces f = (x : List ℚ) → IsIn domain x → pieces_value pieces x ≡ Some (formula_value f x)
 
--- ---- the same, of the formula of cells
--- it is the formula, of at most 2,048 nodes
+-- ---- the same, of the formula of some cells
+-- it is the formula, and has at most 2,048 nodes
 pub record IsSmallFormula (wanted : Formula) (f : rust.Formula) : Type 0 where
   pub is : plain_of f ≡ wanted
   pub nodes : node_count (plain_of f) ≤ 2048

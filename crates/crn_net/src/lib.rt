@@ -207,6 +207,3 @@ impl Network {
         self.parts.context
     }
 }
-
-#[cfg(test)]
-mod tests;

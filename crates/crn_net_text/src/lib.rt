@@ -109,6 +109,3 @@ fn read_text(alloc: Global, bytes: &[u8]) -> Result<Network, NetTextError>
     }
     Ok(network)
 }
-
-#[cfg(test)]
-mod tests;

@@ -294,6 +294,3 @@ impl<'a> Replay<'a> {
         }
     }
 }
-
-#[cfg(test)]
-mod tests;
