@@ -23,10 +23,10 @@ use Rattle.crn_completer.specs.declared.CompletionTooBig.{CompletionTooBig}
 
 -- ---- the first quotient that does not fit
 
-abbrev FitsAmong : (ℕ → ℚ) → List Part → ℕ → Type 0
+abbrev pub FitsAmong : (ℕ → ℚ) → List Part → ℕ → Type 0
 FitsAmong m ps s = IsFrac (m s /ℚ whole (pos (count_of ps s)))
 
-record UnfitAmong (m : ℕ → ℚ) (ps : List Part) (s : ℕ) : Type 0 where
+pub record UnfitAmong (m : ℕ → ℚ) (ps : List Part) (s : ℕ) : Type 0 where
   pub reactant : 0 < count_of ps s
   pub unfit : FitsAmong m ps s → ⊥
   pub earlier : (t : ℕ) → t < s → 0 < count_of ps t → FitsAmong m ps t
@@ -45,7 +45,7 @@ rest_fits m p ps s o h = subst (λ k. IsFrac (m s /ℚ whole (pos k))) (sym (cou
 fits_rest : (m : ℕ → ℚ) (p : Part) (ps : List Part) (s : ℕ) → p.species ≢ s → FitsAmong m (p ∷ ps) s → FitsAmong m ps s
 fits_rest m p ps s o h = subst (λ k. IsFrac (m s /ℚ whole (pos k))) (count_of_other p ps s o) h
 
-unfit_among : (low n : ℕ) (m : ℕ → ℚ) (ps : List Part) (s : ℕ) → AreParts low n ps → unfit_quotient m ps ≡ Some s → UnfitAmong m ps s
+pub unfit_among : (low n : ℕ) (m : ℕ → ℚ) (ps : List Part) (s : ℕ) → AreParts low n ps → unfit_quotient m ps ≡ Some s → UnfitAmong m ps s
 unfit_among low n m [] s ok h = absurd (cc h)
 unfit_among low n m (p ∷ ps) s ok h =
     let test : Bool → Option ℕ = λ b. if b then unfit_quotient m ps else Some p.species in
@@ -72,7 +72,7 @@ unfit_among low n m (p ∷ ps) s ok h =
     })
     (is_frac_cases q)
 
-among_unfit : (low n : ℕ) (m : ℕ → ℚ) (ps : List Part) (s : ℕ) → AreParts low n ps → UnfitAmong m ps s → unfit_quotient m ps ≡ Some s
+pub among_unfit : (low n : ℕ) (m : ℕ → ℚ) (ps : List Part) (s : ℕ) → AreParts low n ps → UnfitAmong m ps s → unfit_quotient m ps ≡ Some s
 among_unfit low n m [] s ok a = let none : 0 < 0 = a.reactant in absurd (omega arith)
 among_unfit low n m (p ∷ ps) s ok a =
     let test : Bool → Option ℕ = λ b. if b then unfit_quotient m ps else Some p.species in
@@ -142,7 +142,7 @@ module _ (net : Network) (c : List ℚ) (u : List Flow) where
   of_fits : (s : ℕ) → SpeciesFits net c u s → is_some (sum_of net c u s) ≡ true
   of_fits s h = ap is_some (sum_fits (change net s) (amount c s) (flows_with net s u) h)
 
-  first_sum : (t : ℕ) → unfit_sum (sum_of net c u) 1 net.species ≡ Some t → IsFirst (SpeciesFits net c u) net.species t
+  pub first_sum : (t : ℕ) → unfit_sum (sum_of net c u) 1 net.species ≡ Some t → IsFirst (SpeciesFits net c u) net.species t
   first_sum t h =
       let f : IsFirstWithout (sum_of net c u) 1 net.species t = without (sum_of net c u) 1 net.species t h in
       record {
@@ -152,7 +152,7 @@ module _ (net : Network) (c : List ℚ) (u : List Flow) where
         here = λ fits. let e : true ≡ false = sym (of_fits t fits) ∙ ap is_some f.here in absurd (cc e);
       }
 
-  sum_first : (t : ℕ) → IsFirst (SpeciesFits net c u) net.species t → unfit_sum (sum_of net c u) 1 net.species ≡ Some t
+  pub sum_first : (t : ℕ) → IsFirst (SpeciesFits net c u) net.species t → unfit_sum (sum_of net c u) 1 net.species ≡ Some t
   sum_first t f =
       is_without (sum_of net c u) 1 net.species t (record {
         low = f.low;

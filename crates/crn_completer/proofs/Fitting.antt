@@ -64,12 +64,12 @@ sums_all m s zero h = refl
 sums_all m s (suc left) h =
     ap (λ b. if b then unfit_sum m (suc s) left else Some s) (h s (omega arith) (omega arith)) ∙ sums_all m (suc s) left (λ j low high. h j (omega (arith, low)) (omega (arith, high)))
 
-step_fits : (net : Network) (c : List ℚ) (u : List Flow) → unfit_sum (sum_of net c u) 1 net.species ≡ None → StepFits net c u
+pub step_fits : (net : Network) (c : List ℚ) (u : List Flow) → unfit_sum (sum_of net c u) 1 net.species ≡ None → StepFits net c u
 step_fits net c u h s low high =
     let k = all_sums (sum_of net c u) 1 net.species h s low (omega arith) in
     (sum_is (change net s) (amount c s) k.0 (flows_with net s u) k.1).1
 
-fitting_step : (net : Network) (c : List ℚ) (u : List Flow) → StepFits net c u → unfit_sum (sum_of net c u) 1 net.species ≡ None
+pub fitting_step : (net : Network) (c : List ℚ) (u : List Flow) → StepFits net c u → unfit_sum (sum_of net c u) 1 net.species ≡ None
 fitting_step net c u h =
     sums_all (sum_of net c u) 1 net.species (λ s low high. ap is_some (sum_fits (change net s) (amount c s) (flows_with net s u) (h s low (omega (arith, high)))))
 

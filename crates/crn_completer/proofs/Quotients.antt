@@ -29,7 +29,7 @@ pub record SoFar (m : ℕ → ℚ) (ps : List Part) (i : ℕ) (least : Option �
   pub same : greatest (parts_of ps) m ≡ least_with m least (parts_of (drop i ps))
   pub some : 0 < i → IsSome least
 
-least_more : (m : ℕ → ℚ) (o : Option ℚ) (q : ℚ) (p : Plain.Part) (ps : List Plain.Part) → q ≡ m p.species /ℚ whole (pos p.count) →
+pub least_more : (m : ℕ → ℚ) (o : Option ℚ) (q : ℚ) (p : Plain.Part) (ps : List Plain.Part) → q ≡ m p.species /ℚ whole (pos p.count) →
     (o ≡ None → least_with m o (p ∷ ps) ≡ least_with m (Some q) ps) × ((a : ℚ) → o ≡ Some a → least_with m o (p ∷ ps) ≡ least_with m (Some (min_ℚ a q)) ps)
 least_more m None q p [] e = (λ _. sym e, λ a h. absurd (cc h))
 least_more m None q p (r ∷ ps) e = (λ _. ap (λ x. min_ℚ x (greatest (r ∷ ps) m)) (sym e), λ a h. absurd (cc h))

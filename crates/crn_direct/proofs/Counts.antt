@@ -25,13 +25,13 @@ module _ (P : ℕ → Type 0) (small : (n : ℕ) → n < 2 ^ 63 → P n) where
   factors_counts (q ∷ qs) [] fits = tt
   factors_counts (q ∷ qs) (a ∷ copies) fits = (factor_counts P small q fits.0, factors_counts qs copies fits.1)
 
-  leaf_on_counts : (form : List ℚ) (copies : List ℕ) (b : Built) → AreFracs form → EachCountOn P b.reactions → EachCountOn P (leaf_on form copies b).built.reactions
+  pub leaf_on_counts : (form : List ℚ) (copies : List ℕ) (b : Built) → AreFracs form → EachCountOn P b.reactions → EachCountOn P (leaf_on form copies b).built.reactions
   leaf_on_counts form copies b fits before =
       let terms = zip (nonzero form) copies in
       stamped_counts P small (rails_of_singles terms) 1 (leaf_one_table (factors_of_singles terms)) b
       (leaf_one_counts P small (factors_of_singles terms) (factors_counts (nonzero form) copies (nonzero_fits form fits))) before
 
-  minimum_counts : (x : ℕ) (l : Laid) → EachCountOn P l.built.reactions → EachCountOn P (minimum_with x l).built.reactions
+  pub minimum_counts : (x : ℕ) (l : Laid) → EachCountOn P l.built.reactions → EachCountOn P (minimum_with x l).built.reactions
   minimum_counts x l before = stamped_counts P small (ascending x l.rail) 1 min_one_table l.built (min_one_counts P small) before
 
   least_counts : (forms : List (List ℚ)) (l : Laid) (copies : List ℕ) → AreFormFracs forms → EachCountOn P l.built.reactions → EachCountOn P (least_on l forms copies).built.reactions

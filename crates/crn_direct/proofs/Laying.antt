@@ -89,7 +89,7 @@ pub length-amounts : (f : ℕ → ℚ) (n k : ℕ) → length (map f (rails_afte
 length-amounts f n zero = refl
 length-amounts f n (suc k) = ap suc (length-amounts f (suc n) k)
 
-amount_at : (f : ℕ → ℚ) (n k i : ℕ) → i < k → get_or (map f (rails_after n k)) i 0ℚ ≡ f (suc (n + i))
+pub amount_at : (f : ℕ → ℚ) (n k i : ℕ) → i < k → get_or (map f (rails_after n k)) i 0ℚ ≡ f (suc (n + i))
 amount_at f n zero i l = absurd (omega arith)
 amount_at f n (suc k) zero l = let e : suc n ≡ suc (n + 0) = omega arith in ap f e
 amount_at f n (suc k) (suc i) l = let e : suc (suc n + i) ≡ suc (n + suc i) = omega arith in amount_at f (suc n) k i (omega arith) ∙ ap f e
@@ -112,7 +112,7 @@ module _ (k : ℕ) (form : List ℚ) (copies us : List ℕ) (count : length copi
 
   module _ (b : Built) (ok : IsSound b) (free : AllFree b copies) (room : k ≤ b.species) (long : length form ≡ k) (nonnegative : All (λ c. 0ℚ ≤ℚ c) form)
       (held : IsMade k b (λ a m. map m copies ≡ map (amount a) (variables_from 1 form ++ us))) where
-    kept : (Claim : List ℚ → (ℕ → ℚ) → Type 0) → IsMade k b Claim → IsMade k (leaf_on form copies b).built Claim
+    pub kept : (Claim : List ℚ → (ℕ → ℚ) → Type 0) → IsMade k b Claim → IsMade k (leaf_on form copies b).built Claim
     kept Claim h =
         leaf_one_keeps b (zip (nonzero form) copies) (leaf_on form copies b).built (suc b.species) (positive_terms form copies nonnegative) ok (terms_free form copies b free enough_copies) refl refl k Claim h
 

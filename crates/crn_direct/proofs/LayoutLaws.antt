@@ -30,7 +30,7 @@ use Rattle.crn_direct.proofs.Laying.{inputs_at, Holds, leaf_holds, Makes, least_
 -- ---- uses
 
 -- the variables of a form over k variables
-variables_within : (k v : ℕ) (form : List ℚ) → 1 ≤ v → v + length form ≤ suc k → All (λ u. (1 ≤ u) × (u ≤ k)) (variables_from v form)
+pub variables_within : (k v : ℕ) (form : List ℚ) → 1 ≤ v → v + length form ≤ suc k → All (λ u. (1 ≤ u) × (u ≤ k)) (variables_from v form)
 variables_within k v [] low high = All-nil (λ u. (1 ≤ u) × (u ≤ k))
 variables_within k v (q ∷ qs) low high = step (is_zero_ℚ q) (variables_within k (suc v) qs (omega arith) (omega arith))
   where
@@ -71,12 +71,12 @@ laid_makes k (form ∷ forms) some long nonnegative =
 -- ---- a start
 
 -- amounts by an equal rule
-same_amounts : (f g : ℕ → ℚ) (n k : ℕ) → ((s : ℕ) → n < s → s ≤ n + k → f s ≡ g s) → map f (rails_after n k) ≡ map g (rails_after n k)
+pub same_amounts : (f g : ℕ → ℚ) (n k : ℕ) → ((s : ℕ) → n < s → s ≤ n + k → f s ≡ g s) → map f (rails_after n k) ≡ map g (rails_after n k)
 same_amounts f g n zero h = refl
 same_amounts f g n (suc k) h = ap₂ (λ x xs. x ∷ xs) (h (suc n) (omega arith) (omega arith)) (same_amounts f g (suc n) k (λ s l m. h s (omega arith) (omega arith)))
 
 -- the inputs are given the amounts in turn
-given_amounts : (n k : ℕ) (xs : List ℚ) → length xs ≡ k → map (given_to (input_species (inputs_after Direct n k)) xs) (rails_after n k) ≡ xs
+pub given_amounts : (n k : ℕ) (xs : List ℚ) → length xs ≡ k → map (given_to (input_species (inputs_after Direct n k)) xs) (rails_after n k) ≡ xs
 given_amounts n zero [] e = refl
 given_amounts n zero (x ∷ xs) e = absurd (omega arith)
 given_amounts n (suc k) [] e = absurd (omega arith)

@@ -9,7 +9,7 @@ use Rattle.crn_direct.specs.Layout.{variables_from, uses_of, copies_for, Laid, l
 use Rattle.crn_direct.proofs.Leaves.{count_variables}
 
 -- a form has a nonzero coefficient for each of its columns at most
-few_nonzero : (form : List ℚ) → length (nonzero form) ≤ length form
+pub few_nonzero : (form : List ℚ) → length (nonzero form) ≤ length form
 few_nonzero [] = omega arith
 few_nonzero (q ∷ qs) = step (is_zero_ℚ q) (few_nonzero qs)
   where

@@ -76,8 +76,8 @@ fn uses_of(alloc: Global, forms: &[Form]) -> Result<Vec<usize>, AllocError>
     Ok(uses)
 }
 
-// Those of a form: one for each nonzero coefficient.
-fn push_variables(uses: &mut Vec<usize>, form: &Form) -> Result<(), AllocError>
+/// Adds the variables of a form, numbered from 1: one for each nonzero coefficient.
+pub fn push_variables(uses: &mut Vec<usize>, form: &Form) -> Result<(), AllocError>
     ensures { OnOk result (uses.new.items ≡ uses.old.items ++ variables_from 1 form.now) }
 {
     for column in 0..form.len() {
@@ -135,8 +135,8 @@ fn least(
     Ok((builder, least))
 }
 
-// The terms of a form: each nonzero coefficient with the next copy.
-fn terms_on(
+/// The terms of a form: each nonzero coefficient with the next copy.
+pub fn terms_on(
     alloc: Global,
     form: &Form,
     copies: &mut IntoIter<Rail>,

@@ -7,4 +7,4 @@
 mod compile;
 pub mod laws;
 
-pub use compile::compile_direct;
+pub use compile::{compile_direct, push_variables, terms_on};

@@ -5,3 +5,4 @@ pub mod Steps
 pub mod Multiples
 pub mod Firsts
 pub mod Points
+pub mod OwnDomains

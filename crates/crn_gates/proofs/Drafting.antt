@@ -102,7 +102,7 @@ are_inputs Dual k n false l = record { ends = dual_ends n 0 k (omega arith); dif
 are_inputs Direct k n true l = record { ends = direct_ends n 0 k (omega arith); different = direct_different 0 k; context = (omega arith, l, direct_past 0 k (suc k) (omega arith)) }
 are_inputs Direct k n false l = record { ends = direct_ends n 0 k (omega arith); different = direct_different 0 k; context = tt }
 
-some_before : (rails : Rails) (k : ℕ) (context : Bool) → 1 ≤ k → 1 ≤ width_before rails k context
+pub some_before : (rails : Rails) (k : ℕ) (context : Bool) → 1 ≤ k → 1 ≤ width_before rails k context
 some_before Dual k true l = omega arith
 some_before Dual k false l = omega arith
 some_before Direct k true l = omega arith

@@ -18,3 +18,4 @@ pub mod Drafting
 pub mod RailCalls
 pub mod FreeRails
 pub mod Counts
+pub mod GatedCalls

@@ -11,3 +11,4 @@ pub mod Calls
 pub mod Stamps
 pub mod Singles
 pub mod Computes
+pub mod Gated

@@ -27,6 +27,7 @@ ghost use Rattle.crn_gates.specs.declared.BuildError.TheVariants.{TooLarge, Memo
 use crn_fraction::Frac;
 use crn_net::{Ends, Network, NetworkError, Parts, Rails, Reaction};
 use fan::{copies, fan, originals, rails_after, with_copies};
+pub use gated::GatedBuilder;
 use stamp::{
     ADD, Gate, MAX, MIN, MIN_ONE, NONE, Ratio, SUB, Slots, stamp, stamp_pair, stamp_rail,
     stamp_single,
@@ -36,6 +37,7 @@ use std::marker::Model;
 use thiserror::Error;
 
 mod fan;
+mod gated;
 pub mod laws;
 mod stamp;
 

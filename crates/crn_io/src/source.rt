@@ -3,7 +3,7 @@
 ghost use Rattle.std.specs.Prelude.{ℕ, List, Option, Some, None, ◌≡◌, ◌+◌, ◌-◌, ◌^◌, ◌<◌, ◌≤◌, ◌↔◌, length, vec_len, IfOk, IsOkAnd, OnOk, OnErr, IsErrOf, min, take, ⊤};
 ghost use Rattle.std.specs.Io.{ReadsAtMost};
 ghost use Rattle.std.specs.Io.KnownBytes.{ReadConsumes, Consumes, IsAtEnd};
-ghost use Rattle.crn_io.specs.Causes.{HasCause, raised};
+ghost use Rattle.crn_io.specs.Causes.{HasCause, CountsNothing, raised, once_more};
 ghost use Rattle.crn_io.specs.Memory.{supply_of, IsListed, WasListed, after_read, after_read_fault};
 ghost use Rattle.crn_io.specs.Moved.{ConsumesSome};
 
@@ -31,6 +31,9 @@ pub trait Source {
     /// How many calls there were, where the source tells it.
     ghost calls: { Self → ℕ } = { λ _. 0 };
 
+    /// How many calls gave no byte, at the end or by a failure, where the source tells it. The count stays at the greatest `u64`.
+    ghost nothing: { Self → Option ℕ } = { λ _. None };
+
     /// Takes the next bytes into the front of `buf`, and says how many. `Ok(0)` means the end. A call that fails takes none.
     fn read(&mut self, buf: &mut [u8]) -> Result<usize, Failed>
         requires { 0 < length buf.old }
@@ -38,7 +41,8 @@ pub trait Source {
         ensures bytes { ReadConsumes (left self.old) (left self.new) result buf.new }
         ensures cause { HasCause (faults self.old) (faults self.new) result }
         ensures last { OnErr result (just_failed self.new) }
-        ensures one { calls self.new ≤ calls self.old + 1 };
+        ensures one { calls self.new ≤ calls self.old + 1 }
+        ensures nothing { CountsNothing (nothing self.old) (nothing self.new) result };
 }
 
 // Copies as many bytes as there is room for, and at most `most`.
@@ -90,6 +94,7 @@ impl Source for PlainSource {
         ensures bytes { ReadConsumes (Some self.old) (Some self.new) result buf.new }
         ensures cause { HasCause 0 0 result }
         ensures last { OnErr result ⊥ }
+        ensures nothing { CountsNothing None None result }
         ensures count { IsOkAnd result (λ n. n ≡ min (length self.old) (length buf.old)) }
     {
         let count = copy_front(&self.bytes[self.at..], buf, usize::MAX);
@@ -107,6 +112,7 @@ pub struct MemSource {
     fails: Vec<u64>,
     calls: u64,
     faults: u64,
+    nothing: u64,
 }
 
 impl Model for MemSource {
@@ -115,7 +121,7 @@ impl Model for MemSource {
 
     ghost Value = { Supply };
 
-    ghost view = { λ s. record { left = drop s.at s.bytes.items; step = s.step; fails = s.fails.items; calls = s.calls; faults = s.faults } };
+    ghost view = { λ s. record { left = drop s.at s.bytes.items; step = s.step; fails = s.fails.items; calls = s.calls; faults = s.faults; nothing = s.nothing } };
 
     ghost invariant = { λ s. (s.at ≤ vec_len s.bytes) × (1 ≤ s.step) };
 }
@@ -133,6 +139,7 @@ impl MemSource {
             fails,
             calls: 0,
             faults: 0,
+            nothing: 0,
         }
     }
 
@@ -153,6 +160,8 @@ impl Source for MemSource {
 
     ghost calls = { λ s. s.calls };
 
+    ghost nothing = { λ s. Some s.nothing };
+
     fn read(&mut self, buf: &mut [u8]) -> Result<usize, Failed>
         requires { 0 < length buf.old }
         ensures bound { ReadsAtMost result buf.new }
@@ -160,6 +169,7 @@ impl Source for MemSource {
         ensures cause { HasCause self.old.faults self.new.faults result }
         ensures last { OnErr result (WasListed self.new.fails self.new.calls) }
         ensures one { self.new.calls ≤ self.old.calls + 1 }
+        ensures nothing { CountsNothing (Some self.old.nothing) (Some self.new.nothing) result }
         ensures fails { OnErr result (IsListed self.old.fails self.old.calls) }
         ensures serves { OnOk result (¬ IsListed self.old.fails self.old.calls) }
         ensures count { IfOk result (λ n. n ≡ min (length self.old.left) (min self.old.step (length buf.old))) }
@@ -169,9 +179,13 @@ impl Source for MemSource {
         self.calls = self.calls.saturating_add(1);
         if self.fails.contains(&self.calls) {
             self.faults = self.faults.saturating_add(1);
+            self.nothing = self.nothing.saturating_add(1);
             return Err(Failed);
         }
         let count = copy_front(&self.bytes[self.at..], buf, self.step);
+        if count == 0 {
+            self.nothing = self.nothing.saturating_add(1);
+        }
         self.at += count;
         Ok(count)
     }
@@ -212,6 +226,7 @@ impl<R: Read + Drop> Source for StdSource<R> {
         ensures bytes { ReadConsumes None None result buf.new }
         ensures cause { HasCause self.old.faults self.new.faults result }
         ensures last { OnErr result ⊤ }
+        ensures nothing { CountsNothing None None result }
         ensures hands_on { ReadConsumes self.old.known self.new.known result buf.new }
         ensures ok { OnOk result (self.new.faults ≡ self.old.faults) }
         ensures err { OnErr result (self.new.faults ≡ raised self.old.faults) }
@@ -271,6 +286,10 @@ pub fn read_all<S: Source>(
     ensures fault_within { IsErrOf result ReadAllError.Fault → ConsumesSome (S.left source.old) (S.left source.new) (λ n. n ≤ limit) }
     ensures memory { IsErrOf result ReadAllError.Memory → ConsumesSome (S.left source.old) (S.left source.new) (λ n. n ≤ limit) }
     ensures later { S.faults source.old ≤ S.faults source.new }
+    ensures nothing_ok { OnOk result (S.nothing source.new ≡ once_more (S.nothing source.old)) }
+    ensures nothing_fault { IsErrOf result ReadAllError.Fault → S.nothing source.new ≡ once_more (S.nothing source.old) }
+    ensures nothing_too_long { IsErrOf result ReadAllError.TooLong → S.nothing source.new ≡ S.nothing source.old }
+    ensures nothing_memory { IsErrOf result ReadAllError.Memory → S.nothing source.new ≡ S.nothing source.old }
     ensures no_fault { ¬ IsErrOf result ReadAllError.Fault → S.faults source.new ≡ S.faults source.old }
 {
     let mut bytes = Vec::new(alloc);

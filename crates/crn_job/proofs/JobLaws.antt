@@ -37,20 +37,20 @@ job_refused bytes e is = subst (Refuses e) (sym (job_is bytes)) (followed_refuse
 
 -- ---- each place can end
 -- their amounts
-abbrev nothing : Rails → List ℚ
+abbrev pub nothing : Rails → List ℚ
 nothing rails.Dual = fraction false (Whole 0) ∷ fraction false (Whole 0) ∷ []
 nothing rails.Direct = fraction false (Whole 0) ∷ []
 
 -- an input line of zeros
-abbrev zeros : Rails → List Plain
+abbrev pub zeros : Rails → List Plain
 zeros rails.Dual = PlainNumber (pos 0) ∷ PlainNumber (pos 0) ∷ []
 zeros rails.Direct = PlainNumber (pos 0) ∷ []
 
-abbrev input_line : Rails → PlainLine
+abbrev pub input_line : Rails → PlainLine
 input_line kind = record { number = 0; bad = false; tokens = PlainWord (codes "input") ∷ zeros kind }
 
 -- an input line of zeros may follow while one is to come
-zeros_lead : (n : ℕ) (t : Tail) (kind : Rails) → t.left ≡ suc n → t.rails ≡ kind → tail_next t (input_line t.rails) ≡ Some (with_input t n (nothing t.rails))
+pub zeros_lead : (n : ℕ) (t : Tail) (kind : Rails) → t.left ≡ suc n → t.rails ≡ kind → tail_next t (input_line t.rails) ≡ Some (with_input t n (nothing t.rails))
 zeros_lead n t rails.Dual some is = rw (is, some) refl
 zeros_lead n t rails.Direct some is = rw (is, some) refl
 
@@ -60,7 +60,7 @@ goes_where_allowed s line t is =
     ⊎_elim (λ going. going) (λ stop. let wrong : ◌≡◌ {A = Option Place} None (Some t) = sym (not_followed s (first_word (says line)) (rest_of (says line)) stop) ∙ is in cc) (cases_Bool (goes_on s line))
 
 -- each place after the function part can end: with input lines of zeros
-inputs_end : (kind : Rails) (inputs left : ℕ) (t : Tail) → t.left ≡ left → Stops (tail_table kind inputs) t
+pub inputs_end : (kind : Rails) (inputs left : ℕ) (t : Tail) → t.left ≡ left → Stops (tail_table kind inputs) t
 inputs_end kind inputs zero t none = ([], t, record { amounts = t.amounts; segments = t.segments }, refl, ap (λ n. value_at n t) none)
 inputs_end kind inputs (suc n) t some = go (inputs_end kind inputs n (with_input t n (nothing t.rails)) refl)
   where

@@ -39,7 +39,7 @@ tail_kept : (f : PlainFunction) → IsKept (rails_of f.kind) f.variables (job_ta
 tail_kept f = record { rails_are = refl; few = omega arith; inputs_are = omega arith; not_negative = tt; segments = tt }
 
 -- where it may end
-ended : (left : ℕ) (t : Tail) (v : TailValue) → t.left ≡ left → value_at left t ≡ Some v → (t.left ≡ 0) × (t.amounts ≡ v.amounts) × (t.segments ≡ v.segments)
+pub ended : (left : ℕ) (t : Tail) (v : TailValue) → t.left ≡ left → value_at left t ≡ Some v → (t.left ≡ 0) × (t.amounts ≡ v.amounts) × (t.segments ≡ v.segments)
 ended zero t v none is = (none, ap (λ (w : TailValue). w.amounts) (same_Some _ v is), ap (λ (w : TailValue). w.segments) (same_Some _ v is))
 ended (suc n) t v some is = let wrong : ◌≡◌ {A = Option TailValue} None (Some v) = is in cc
 

@@ -189,6 +189,16 @@ turns net ok ff c nn (suc n) bound =
     next_turn net n c _ _ before
     (turn net ok ff (suc n) (omega arith) bound (after_all net c (completion_to net n c)) (run_not_negative net _ c _ nn before.runs))
 
+-- the completion by the first reactions is a run
+pub completion_to_runs : (net : Network) → AreReactions net → IsFeedForward net → (c : List ℚ) → IsNotNegative c → (n : ℕ) → n ≤ length net.reactions →
+    Run net c (completion_to net n c) (after_all net c (completion_to net n c))
+completion_to_runs net ok ff c nn n bound = (turns net ok ff c nn n bound).runs
+
+-- and each of them lacks a reactant after it
+pub completion_to_exhausts : (net : Network) → AreReactions net → IsFeedForward net → (c : List ℚ) → IsNotNegative c → (n : ℕ) → n ≤ length net.reactions →
+    (q : ℕ) → 1 ≤ q → q ≤ n → LacksReactant net q (after_all net c (completion_to net n c))
+completion_to_exhausts net ok ff c nn n bound = (turns net ok ff c nn n bound).lack
+
 -- the completion is a run
 pub completion_runs : (net : Network) → AreReactions net → IsFeedForward net → (c : List ℚ) → IsNotNegative c → Run net c (completion net c) (completed net c)
 completion_runs net ok ff c nn = (turns net ok ff c nn (length net.reactions) (le_refl _)).runs

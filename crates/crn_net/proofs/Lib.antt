@@ -7,6 +7,7 @@ pub mod Completion
 pub mod Made
 pub mod Exhausted
 pub mod Settling
+pub mod There
 pub mod Computes
 pub mod Flows
 pub mod FeedForward

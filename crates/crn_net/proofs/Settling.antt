@@ -66,7 +66,7 @@ computes net ok ff xs v nn is = record {
 -- ---- the theorems
 
 -- a run has no negative flux
-total_not_negative : (net : Network) (us : List (List Flow)) (c d : List ℚ) → Run net c us d → (r : ℕ) → 0ℚ ≤ℚ total us r
+pub total_not_negative : (net : Network) (us : List (List Flow)) (c d : List ℚ) → Run net c us d → (r : ℕ) → 0ℚ ≤ℚ total us r
 total_not_negative net [] c d h r = ≤ℚ_refl 0ℚ
 total_not_negative net (u ∷ us) c d h r =
     ≤ℚ_trans _ _ _ (flux_not_negative (length net.reactions) u r h.0.flows) (subst (λ x. x ≤ℚ flux_of u r +ℚ total us r) (+ℚ-zero _) (+ℚ-≤ℚ_left 0ℚ (total us r) (flux_of u r) (total_not_negative net us (after net c u) d h.1 r)))

@@ -15,17 +15,76 @@ fn network_text(alloc: Global, text: &str) -> Result<String, Fail> {
     printed(alloc, &compile(alloc, function)?)
 }
 
-/// The least of forms is compiled to single rails, and a formula to pairs.
+const DIFFERENCE: &str = "crn 1 dual
+species 12
+input S1 S2
+output S11 S12
+reactions 10
+S1 -> S3 + S5
+S2 -> S4 + S6
+S3 -> S7
+S4 -> S8
+S5 -> S9
+S6 -> S10
+S7 -> S11
+S8 -> S12
+S9 -> S12
+S10 -> S11
+";
+
+const SCALED: &str = "crn 1 dual
+species 8
+input S1 S2
+output S7 S8
+reactions 6
+S1 -> S3
+S2 -> S4
+S3 -> S5
+S4 -> S6
+3 S5 -> 2 S8
+3 S6 -> 2 S7
+";
+
+const SUM: &str = "crn 1 dual
+species 12
+input S1 S2
+output S11 S12
+reactions 10
+S1 -> S3 + S5
+S2 -> S4 + S6
+S3 -> S7
+S4 -> S8
+S5 -> S9
+S6 -> S10
+S7 -> S11
+S8 -> S12
+S9 -> S11
+S10 -> S12
+";
+
 #[test]
 fn compiles(rt: HostRuntime) -> Result<(), Fail> {
     for (function, network) in [
         (
-            "function direct
-variables 2
-form 2x1 + x2
-form 3x2
+            "function formula
+variables 1
+value sub(x1, x1)
 ",
-            LEAST_OF_TWO_FORMS,
+            DIFFERENCE,
+        ),
+        (
+            "function formula
+variables 1
+value scale(-2/3, x1)
+",
+            SCALED,
+        ),
+        (
+            "function formula
+variables 1
+value add(x1, x1)
+",
+            SUM,
         ),
         (
             "function formula
@@ -34,8 +93,19 @@ value min(x1, x2)
 ",
             MINIMUM,
         ),
+        (
+            "function direct
+variables 2
+form 2x1 + x2
+form 3x2
+",
+            LEAST_OF_TWO_FORMS,
+        ),
     ] {
-        assert_eq!(rt; network_text(rt.alloc(), function)?.as_str(), network);
+        assert!(rt;
+            network_text(rt.alloc(), function)?.as_str() == network,
+            "{function}"
+        );
     }
     Ok(())
 }

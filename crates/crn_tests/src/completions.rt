@@ -20,7 +20,7 @@ S5 -> S4
 #[test]
 fn a_completion_takes_each_reaction_in_turn(rt: HostRuntime) -> Result<(), Fail> {
     let network = read_network(rt.alloc(), NETWORK)?;
-    assert_eq!(rt; network.species(), 5);
+    assert!(rt; network.species() == 5);
     let mut completer = Completer::new(rt.alloc(), &network)?;
     let state = state(rt.alloc(), 5, amount(3, 1)?, amount(0, 1)?, amount(1, 1)?)?;
     let mut replay = Replay::new(rt.alloc(), &network, state)?;
@@ -42,7 +42,7 @@ fn a_completion_takes_each_reaction_in_turn(rt: HostRuntime) -> Result<(), Fail>
 #[test]
 fn numbers_that_are_too_big(rt: HostRuntime) -> Result<(), Fail> {
     let network = read_network(rt.alloc(), NETWORK)?;
-    assert_eq!(rt; network.species(), 5);
+    assert!(rt; network.species() == 5);
     let mut completer = Completer::new(rt.alloc(), &network)?;
     let most = amount(i64::MAX, 1)?;
     for (num, den, reaction, species) in [(1, i64::MAX, 1, 1), (0, 1, 2, 4)] {
@@ -61,8 +61,8 @@ fn numbers_that_are_too_big(rt: HostRuntime) -> Result<(), Fail> {
 #[test]
 fn the_flux_that_the_reactants_allow(rt: HostRuntime) -> Result<(), Fail> {
     let network = read_network(rt.alloc(), NETWORK)?;
-    assert_eq!(rt; network.species(), 5);
-    assert_eq!(rt; network.reaction_count(), 3);
+    assert!(rt; network.species() == 5);
+    assert!(rt; network.reaction_count() == 3);
     let (none, one, some) = (amount(0, 1)?, amount(1, 1)?, amount(5, 2)?);
     let half = amount(3, 2)?;
     let full = state(rt.alloc(), 5, amount(3, 1)?, some, one)?;

@@ -2,7 +2,7 @@
 
 use crate::shared::{LEAST_OF_TWO_FORMS, printed};
 use crn_direct::compile_direct;
-use crn_formula::{Function, FunctionKind};
+use crn_formula::FunctionKind;
 use crn_function_text::read_function;
 use std::alloc::Global;
 use std::test::Fail;
@@ -16,30 +16,8 @@ fn network_text(alloc: Global, text: &str) -> Result<String, Fail> {
     }
 }
 
-#[test]
-fn two_forms(rt: HostRuntime) -> Result<(), Fail> {
-    let function = "function direct
-variables 2
-form 2x1 + x2
-form 3x2
-";
-    assert_eq!(rt;
-        network_text(rt.alloc(), function)?.as_str(),
-        LEAST_OF_TWO_FORMS
-    );
-    Ok(())
-}
-
-/// A form without a nonzero coefficient has a species that nothing gives, and takes part in the minimum.
-#[test]
-fn a_form_that_is_0(rt: HostRuntime) -> Result<(), Fail> {
-    let function = "function direct
-variables 2
-form 3/2x1
-form 0
-form x2
-";
-    let network = "crn 1 direct
+// The form 0 has a species that nothing gives, and takes part in the minimum.
+const WITH_NOTHING: &str = "crn 1 direct
 species 9
 input S1
 input S2
@@ -52,17 +30,8 @@ S5 + S6 -> S7
 S4 -> S8
 S7 + S8 -> S9
 ";
-    assert_eq!(rt; network_text(rt.alloc(), function)?.as_str(), network);
-    Ok(())
-}
 
-#[test]
-fn one_form(rt: HostRuntime) -> Result<(), Fail> {
-    let function = "function direct
-variables 1
-form 1/2x1
-";
-    let network = "crn 1 direct
+const HALF: &str = "crn 1 direct
 species 3
 input S1
 output S3
@@ -70,6 +39,39 @@ reactions 2
 S1 -> S2
 2 S2 -> S3
 ";
-    assert_eq!(rt; network_text(rt.alloc(), function)?.as_str(), network);
+
+#[test]
+fn layouts(rt: HostRuntime) -> Result<(), Fail> {
+    for (function, network) in [
+        (
+            "function direct
+variables 2
+form 2x1 + x2
+form 3x2
+",
+            LEAST_OF_TWO_FORMS,
+        ),
+        (
+            "function direct
+variables 2
+form 3/2x1
+form 0
+form x2
+",
+            WITH_NOTHING,
+        ),
+        (
+            "function direct
+variables 1
+form 1/2x1
+",
+            HALF,
+        ),
+    ] {
+        assert!(rt;
+            network_text(rt.alloc(), function)?.as_str() == network,
+            "{function}"
+        );
+    }
     Ok(())
 }

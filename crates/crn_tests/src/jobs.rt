@@ -1,6 +1,6 @@
 //! Tests of crn_job.
 
-use crate::shared::{MAXIMUM, copies, joined};
+use crate::shared::MAXIMUM;
 use crn_fraction::Frac;
 use crn_job::{JobError, read_job, read_job_tail, read_run_job};
 use crn_net::Rails;
@@ -15,15 +15,16 @@ input 3/2 1/2
 input 2 0
 ";
 
-// How many segments the job that was read has, or why none was.
-fn read(alloc: Global, text: &str) -> Result<usize, JobError> {
+// How many segments the job of a text in two parts has, or why none was read.
+fn read(alloc: Global, head: &str, rest: &str) -> Result<usize, JobError> {
+    let text = [head, rest].concat(alloc)?;
     let job = read_job(alloc, text.as_bytes())?;
     Ok(job.segments.len())
 }
 
 #[test]
 fn a_text_cut_short(rt: HostRuntime) -> Result<(), Fail> {
-    assert_eq!(rt; MINIMUM.len(), 71);
+    assert!(rt; MINIMUM.len() == 71);
     for n in 0..72usize {
         let line = match n {
             0..=15 => 1,
@@ -39,7 +40,7 @@ fn a_text_cut_short(rt: HostRuntime) -> Result<(), Fail> {
             Err(JobError::Malformed { line })
         };
         let text = MINIMUM.get(..n).ok_or("it has so many bytes")?;
-        assert_eq!(rt; read(rt.alloc(), text), wanted, "after {n} bytes");
+        assert!(rt; read(rt.alloc(), text, "") == wanted, "after {n} bytes");
     }
     Ok(())
 }
@@ -85,8 +86,7 @@ segment 2:1
             2,
         ),
     ] {
-        let text = joined(rt.alloc(), head, tail)?;
-        assert_eq!(rt; read(rt.alloc(), text.as_str()), Ok(segments), "{tail}");
+        assert!(rt; read(rt.alloc(), head, tail) == Ok(segments), "{tail}");
     }
     Ok(())
 }
@@ -152,25 +152,22 @@ segment 1:0
             5,
         ),
     ] {
-        let text = joined(rt.alloc(), head, tail)?;
         let wanted = Err(JobError::Malformed { line });
-        assert_eq!(rt; read(rt.alloc(), text.as_str()), wanted, "{tail}");
+        assert!(rt; read(rt.alloc(), head, tail) == wanted, "{tail}");
     }
     Ok(())
 }
 
 #[test]
-fn a_limit_of_the_function(rt: HostRuntime) -> Result<(), Fail> {
-    let text = "function direct
+fn a_limit_of_the_function(rt: HostRuntime) {
+    let head = "function direct
 variables 9
-form x1
 ";
     let wanted = Err(JobError::Limit {
         what: Counted::Variables,
         count: 9,
     });
-    assert_eq!(rt; read(rt.alloc(), text), wanted);
-    Ok(())
+    assert!(rt; read(rt.alloc(), head, "form x1\n") == wanted);
 }
 
 // A network that splits its input; the lines after it begin at line 8.
@@ -183,8 +180,9 @@ S1 -> S2
 S1 -> S3
 ";
 
-// How many segments the run job that was read has, or why none was.
-fn read_run(alloc: Global, text: &str) -> Result<usize, JobError> {
+// How many segments the run job of a text in two parts has, or why none was read.
+fn read_run(alloc: Global, head: &str, rest: &str) -> Result<usize, JobError> {
+    let text = [head, rest].concat(alloc)?;
     let job = read_run_job(alloc, text.as_bytes())?;
     Ok(job.segments.len())
 }
@@ -201,11 +199,12 @@ fn ten_thousand_segments(rt: HostRuntime) -> Result<(), Fail> {
             }),
         ),
     ] {
-        let segments = copies(rt.alloc(), "segment 1:1/10000\n", count)?;
-        let text = joined(rt.alloc(), MINIMUM, segments.as_str())?;
-        assert_eq!(rt; read(rt.alloc(), text.as_str()), wanted, "{count}");
-        let text = joined(rt.alloc(), SPLIT, segments.as_str())?;
-        assert_eq!(rt; read_run(rt.alloc(), text.as_str()), wanted, "{count}");
+        let segments = "segment 1:1/10000\n".repeat(rt.alloc(), count)?;
+        let (of_job, of_run) = (
+            read(rt.alloc(), MINIMUM, segments.as_str()),
+            read_run(rt.alloc(), SPLIT, segments.as_str()),
+        );
+        assert!(rt; of_job == wanted && of_run == wanted, "{count}");
     }
     Ok(())
 }
@@ -214,10 +213,7 @@ fn ten_thousand_segments(rt: HostRuntime) -> Result<(), Fail> {
 fn amounts_from_left_to_right(rt: HostRuntime) -> Result<(), Fail> {
     let job = read_job(rt.alloc(), MINIMUM.as_bytes())?;
     let (first, second, third) = (Frac::of(3, 2)?, Frac::of(1, 2)?, Frac::of(2, 1)?);
-    assert_eq!(rt;
-        job.amounts.as_slice(),
-        [first, second, third, Frac::ZERO].as_slice()
-    );
+    assert!(rt; job.amounts.as_slice() == [first, second, third, Frac::ZERO].as_slice());
     Ok(())
 }
 
@@ -229,25 +225,21 @@ segment 7:2
         .as_slice();
     let lines = token_lines(rt.alloc(), text)?;
     let (amounts, segments) = read_job_tail(rt.alloc(), text, &lines, 0, 1, Rails::Direct)?;
-    assert_eq!(rt; amounts.as_slice(), [Frac::of(2, 3)?].as_slice());
-    assert_eq!(rt; segments.len(), 1);
+    assert!(rt; amounts.as_slice() == [Frac::of(2, 3)?].as_slice());
+    assert!(rt; segments.len() == 1);
     Ok(())
 }
 
 #[test]
-fn a_context_is_an_input_of_a_run(rt: HostRuntime) -> Result<(), Fail> {
+fn a_run_with_a_context(rt: HostRuntime) -> Result<(), Fail> {
     let tail = "amount S3 1
 segment 3:1
 ";
-    let text = joined(rt.alloc(), MAXIMUM, tail)?;
-    assert_eq!(rt; read_run(rt.alloc(), text.as_str()), Ok(1));
-    let (head, rest) = text
-        .as_str()
-        .split_once("context S3\n")
-        .ok_or("its context")?;
-    let without = joined(rt.alloc(), head, rest)?;
+    assert!(rt; read_run(rt.alloc(), MAXIMUM, tail) == Ok(1));
+    let (head, rest) = MAXIMUM.split_once("context S3\n").ok_or("its context")?;
+    let without = [head, rest].concat(rt.alloc())?;
     let wanted = Err(JobError::Malformed { line: 4 });
-    assert_eq!(rt; read_run(rt.alloc(), without.as_str()), wanted);
+    assert!(rt; read_run(rt.alloc(), without.as_str(), tail) == wanted);
     Ok(())
 }
 
@@ -269,8 +261,7 @@ amount S 3 4/6
         ),
         ("segment 7:1\n", 1),
     ] {
-        let text = joined(rt.alloc(), SPLIT, tail)?;
-        assert_eq!(rt; read_run(rt.alloc(), text.as_str()), Ok(segments), "{tail}");
+        assert!(rt; read_run(rt.alloc(), SPLIT, tail) == Ok(segments), "{tail}");
     }
     Ok(())
 }
@@ -306,9 +297,8 @@ amount S1 1
         ("segment 2:1 1:1\n", 8),
         ("S1 -> S2\n", 8),
     ] {
-        let text = joined(rt.alloc(), SPLIT, tail)?;
         let wanted = Err(JobError::Malformed { line });
-        assert_eq!(rt; read_run(rt.alloc(), text.as_str()), wanted, "{tail}");
+        assert!(rt; read_run(rt.alloc(), SPLIT, tail) == wanted, "{tail}");
     }
     Ok(())
 }
@@ -318,11 +308,11 @@ fn amounts_of_species(rt: HostRuntime) -> Result<(), Fail> {
     let tail = "amount S1 1/2
 amount S3 4/6
 ";
-    let text = joined(rt.alloc(), SPLIT, tail)?;
+    let text = [SPLIT, tail].concat(rt.alloc())?;
     let job = read_run_job(rt.alloc(), text.as_bytes())?;
-    assert_eq!(rt; job.network.species(), 3);
-    assert_eq!(rt; job.state.amount(1), Frac::of(1, 2)?);
-    assert_eq!(rt; job.state.amount(2), Frac::ZERO);
-    assert_eq!(rt; job.state.amount(3), Frac::of(2, 3)?);
+    assert!(rt; job.network.species() == 3);
+    assert!(rt; job.state.amount(1) == Frac::of(1, 2)?);
+    assert!(rt; job.state.amount(2) == Frac::ZERO);
+    assert!(rt; job.state.amount(3) == Frac::of(2, 3)?);
     Ok(())
 }

@@ -58,8 +58,8 @@ fn minimum(alloc: Global) -> Result<Parts, Fail> {
 fn the_minimum_of_two_variables(rt: HostRuntime) -> Result<(), Fail> {
     let network = Network::make(rt.alloc(), minimum(rt.alloc())?)?;
     assert!(rt; network.rails() == Rails::Dual);
-    assert_eq!(rt; network.species(), 16);
-    assert_eq!(rt; network.reaction_count(), 13);
+    assert!(rt; network.species() == 16);
+    assert!(rt; network.reaction_count() == 13);
     let last = network.reaction(13);
     assert!(rt; last.takes.as_slice() == [one(13), one(14)].as_slice());
     assert!(rt; last.gives.as_slice() == [one(15)].as_slice());
@@ -81,7 +81,7 @@ fn takers_ascend(rt: HostRuntime) -> Result<(), Fail> {
         gives: vec![in rt.alloc(); one(1)]?,
     })?;
     let network = Network::make(rt.alloc(), parts)?;
-    assert_eq!(rt; network.species(), 16);
+    assert!(rt; network.species() == 16);
     assert!(rt; network.takers(1) == [1, 14].as_slice());
     assert!(rt; network.takers(12) == [10, 14].as_slice());
     Ok(())
@@ -213,9 +213,8 @@ fn too_many_reactions(rt: HostRuntime) -> Result<(), Fail> {
 #[test]
 fn an_error_says_why(rt: HostRuntime) -> Result<(), Fail> {
     let text = NetworkError::Input { index: 2 }.to_string(rt.alloc())?;
-    assert_eq!(rt;
-        text.as_str(),
-        "input 2 is of the wrong sort, out of range, or names a species again"
+    assert!(rt;
+        text.as_str() == "input 2 is of the wrong sort, out of range, or names a species again"
     );
     Ok(())
 }

@@ -41,7 +41,7 @@ fn segment(alloc: Global, list: &[(u64, i64)]) -> Result<Segment, Fail> {
 
 #[test]
 fn flows_that_are_no_segment_come_back(rt: HostRuntime) -> Result<(), Fail> {
-    assert_eq!(rt; segment(rt.alloc(), &[(1, 1), (14, 1)])?.flows().len(), 2);
+    assert!(rt; segment(rt.alloc(), &[(1, 1), (14, 1)])?.flows().len() == 2);
     for list in [
         [].as_slice(),
         &[(0, 1)],
@@ -78,7 +78,7 @@ fn has_amounts(replay: &Replay<'_>, amounts: &[Frac]) -> bool {
 #[test]
 fn refused_steps_change_nothing(rt: HostRuntime) -> Result<(), Fail> {
     let network = read_network(rt.alloc(), MINIMUM.as_bytes())?;
-    assert_eq!(rt; network.species(), 16);
+    assert!(rt; network.species() == 16);
     let mut replay = Replay::new(rt.alloc(), &network, start(rt.alloc())?)?;
     let amounts = [Frac::of(3, 2)?, Frac::of(1, 2)?, Frac::of(2, 1)?];
     for (flows, refusal) in [
@@ -105,7 +105,7 @@ fn refused_steps_change_nothing(rt: HostRuntime) -> Result<(), Fail> {
 #[test]
 fn steps_happen_one_after_another(rt: HostRuntime) -> Result<(), Fail> {
     let network = read_network(rt.alloc(), MINIMUM.as_bytes())?;
-    assert_eq!(rt; network.species(), 16);
+    assert!(rt; network.species() == 16);
     let mut replay = Replay::new(rt.alloc(), &network, start(rt.alloc())?)?;
     let (half, one, zero) = (Frac::of(1, 2)?, Frac::ONE, Frac::ZERO);
     replay.step(&segment(rt.alloc(), &[(1, 1), (3, 1)])?)?;

@@ -10,7 +10,7 @@ use crn_segments::State;
 use std::alloc::{AllocError, Global};
 use std::test::Fail;
 
-/// The network of the minimum of two variables.
+/// The network of the lesser of two variables.
 pub const MINIMUM: &str = "crn 1 dual
 species 16
 input S1 S2
@@ -135,14 +135,6 @@ piece x1 - 1
 when x1 - 1 >= 0
 ";
 
-/// The quotient of two numbers.
-pub fn quotient(num: i64, den: i64) -> Result<Frac, Fail> {
-    if den == 0 {
-        Err("a zero divisor")?
-    }
-    Ok(Frac::of(num, den)?)
-}
-
 /// The quotient of two numbers, where it is an amount.
 pub fn amount(num: i64, den: i64) -> Result<Frac, Fail>
     requires top { pos 0 ≤ℤ num }
@@ -176,14 +168,6 @@ pub fn state(
 /// The text of a network.
 pub fn printed(alloc: Global, network: &Network) -> Result<String, Fail> {
     Ok(String::from_utf8(print_network(alloc, network)?)?)
-}
-
-/// One text behind another.
-pub fn joined(alloc: Global, head: &str, tail: &str) -> Result<String, AllocError> {
-    let mut text = String::new(alloc);
-    text.push_str(head)?;
-    text.push_str(tail)?;
-    Ok(text)
 }
 
 /// So many copies of a text.

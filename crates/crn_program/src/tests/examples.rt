@@ -239,6 +239,23 @@ input 1/2 0
             "\nvalue 9/2\n",
         ),
         (
+            // switched.job
+            "# The lesser of 2x2 and x3 while x1 is there, and 0 while it is not, at 1/3, 2 and 3. Half of the first form has gone through its gate.
+function gated
+variables 3
+form 2x2 if x1
+form x3 if x1
+input 1/3
+input 2
+input 3
+segment 1:1/3 2:2
+segment 4:2
+segment 5:2
+",
+            "complete-gated",
+            "\nvalue 3\n",
+        ),
+        (
             // hinge.function
             "# One unit of a ReLU network: max(0, 2x1 - x2/2 + 1). Its constant needs a context species.
 function formula

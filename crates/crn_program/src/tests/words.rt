@@ -77,6 +77,8 @@ fn other_words(rt: HostRuntime) -> Result<(), Fail> {
         &["complete", ""],
         &["Compile"],
         &["compile", "1"],
+        &["complete-Gated"],
+        &["compile-gated", ""],
         &["bulk"],
         &["bulk", "0"],
         &["bulk", "01"],

@@ -1,0 +1,12 @@
+pub mod Forms
+pub mod Layout
+pub mod Completion
+pub mod Computes
+pub mod Refusal
+pub mod Answers
+pub mod Written
+pub mod Causes
+pub mod Rules
+pub mod Grammar
+pub mod JobGrammar
+pub mod Reading

@@ -1,0 +1,5 @@
+use Rattle.crn_program.proofs.Correctness.{compile_right}
+use Rattle.crn_program.proofs.laws.compile_is_right.Goals as goal
+
+pub returns : goal.returns
+returns c = λ words bytes text row answer. compile_right words bytes text answer row
