@@ -1,6 +1,6 @@
 use Rattle.std.proofs.Common.{rules}
 use Rattle.crn_gates.proofs.GateCalls.{both_free, one_factor}
-use Rattle.crn_tests.proofs.gates.the_maximum_with_a_constant.Goals as goal
+use Rattle.crn_network_tests.proofs.gates.the_maximum_with_a_constant.Goals as goal
 
 pub leaf-requires-clause-factors : goal.leaf-requires-clause-factors
 leaf-requires-clause-factors g c = one_factor _ (c.in_ok-one.one, c.expect-variable.result) (search rules) (search rules)

@@ -4,7 +4,7 @@ use Rattle.std.specs.Int.{w64}
 use Rattle.std.specs.Prelude.{unsigned_abs}
 use Rattle.crn_fraction.specs.Rational.{0ℚ, ◌≤ℚ◌, ◌/ℚ◌, whole}
 use Rattle.crn_segments.proofs.Amounts.{quotient_not_negative}
-use Rattle.crn_tests.proofs.shared.amount.Goals as goal
+use Rattle.crn_network_tests.proofs.shared.amount.Goals as goal
 
 pub returns : goal.returns
 returns c =
