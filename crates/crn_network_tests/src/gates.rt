@@ -47,31 +47,3 @@ fn the_least_of_two_forms(rt: HostRuntime) -> Result<(), Fail> {
     assert!(rt; printed(rt.alloc(), &network)?.as_str() == LEAST_OF_TWO_FORMS);
     Ok(())
 }
-
-/// The second variable while the first is there, call by call.
-#[test]
-fn a_rail_through_a_gate(rt: HostRuntime) -> Result<(), Fail> {
-    let builder = Builder::new(rt.alloc(), Rails::Direct, 2, false)?;
-    let (builder, mut copies) = builder.fan_out_one(&[2, 1])?;
-    let gate = copies.pop().expect(&rt, "a copy of the first variable");
-    let variable = copies.pop().expect(&rt, "a copy of the second variable");
-    let one = Frac::of(1, 1)?;
-    assert!(rt; one.num() > 0);
-    let terms = vec![in rt.alloc(); (one, variable)]?;
-    let (builder, form) = builder.gated().leaf_one(terms)?;
-    let (builder, passed) = builder.gate_one(gate, form)?;
-    let network = builder.close_one(passed)?;
-    let text = "crn 1 direct
-species 6
-input S1
-input S2
-output S6
-reactions 4
-S1 -> S4
-S2 -> S3
-S3 -> S5
-S4 + S5 -> S4 + S6
-";
-    assert_eq!(rt; printed(rt.alloc(), &network)?.as_str(), text);
-    Ok(())
-}
