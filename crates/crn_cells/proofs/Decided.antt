@@ -25,7 +25,8 @@ use Rattle.crn_cells.proofs.Domains.{inside_in}
 use Rattle.crn_cells.proofs.Rows.{length-above}
 use Rattle.crn_cells.proofs.OrderPoints.{order_point}
 use Rattle.crn_cells.proofs.Insertions.{Names-insert, restricted-put_in}
-use Rattle.crn_cells.proofs.OrderSteps.{Upto, first_order, with_same, with_refuted, with_push, fresh, upto_more, upto_begin, upto_end, level_begin, level_end}
+use Rattle.crn_cells.proofs.OrderSteps.{first_order, with_same, with_refuted, with_push, level_begin, level_end}
+use Rattle.crn_cells.proofs.EachPlace.{Upto, fresh, upto_more, upto_begin, upto_end}
 use Rattle.crn_cells.proofs.Extending.{too_many}
 use Rattle.crn_cells.proofs.Unique.{before_trans}
 
@@ -193,7 +194,15 @@ module _ (D : Domain) (is_domain : IsDomain D) (F : List (List ℚ)) (long : All
             }))
             (λ (h : 4096 ≤ length r.next).
             let full : length r.next ≡ 4096 = let g = r.few in omega (arith, h, g) in
-            inr (TooManyCells 4097, (λ is. cc is), (refl, too_many D is_domain F long distinct (suc m) (omega (arith, below)) (Upto m orders i k) r.next x r.found full met new)))
+            inr (
+              TooManyCells 4097,
+              (λ is. cc is),
+              (
+                refl,
+                too_many D is_domain F long distinct (suc m) (omega (arith, below)) (λ o. Upto m orders i k o ⊎ (o ≡ x)) (r.next ++ x ∷ [])
+                    (with_push D F (suc m) (Upto m orders i k) r.next x met new r.found) (omega (arith, full, length_push r.next x)),
+              ),
+            ))
             (cases_lt (length r.next) 4096)
 
         at_place : Reached (Upto m orders i k) → Decision (order_system D F x) → Reached (Upto m orders i (k + 1)) ⊎ IsEnd

@@ -5,6 +5,8 @@
 #[cfg(test)]
 mod certificates;
 #[cfg(test)]
+mod checked_pieces;
+#[cfg(test)]
 mod elimination;
 #[cfg(test)]
 mod form_texts;
@@ -16,6 +18,8 @@ mod function_texts;
 mod functions;
 #[cfg(test)]
 mod linear_forms;
+#[cfg(test)]
+mod quick_solver;
 #[cfg(test)]
 mod shared;
 #[cfg(test)]

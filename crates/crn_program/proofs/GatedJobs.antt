@@ -3,7 +3,7 @@ use Rattle.std.proofs.Common.{◌≡◌, ℕ, List, [], ◌++◌, length, None, 
 use Rattle.std.specs.Prelude.{codes}
 use Rattle.std.specs.List.{flat_map}
 use Rattle.crn_fraction.specs.Rational.{ℚ}
-use Rattle.crn_net.specs.Network.{Network, Run, AreAmounts, AreNotNegative, after_all, start}
+use Rattle.crn_net.specs.Network.{Network, Run, AreAmounts, AreNotNegative, start}
 use Rattle.crn_net.specs.declared.Flow.{Flow}
 use Rattle.crn_net.proofs.Completion.{run_end}
 use Rattle.crn_segments.specs.Progress.{Progress}
@@ -14,7 +14,7 @@ use Rattle.crn_completer.specs.Kept.{each_alone}
 use Rattle.crn_completer.specs.declared.CompletionTooBig.{CompletionTooBig}
 use Rattle.crn_direct.proofs.LayoutLaws.{length-inputs_direct}
 use Rattle.crn_gated.specs.Completion.{gated_completion, gated_completed}
-use Rattle.crn_gated.specs.Computes.{StablyComputesGated, ComputesGated}
+use Rattle.crn_gated.specs.Computes.{StablyComputesGated}
 use Rattle.crn_gated.specs.declared.GatedForm.{GatedForm}
 use Rattle.crn_gated.specs.Forms.{AreGatedForms, gated_value}
 use Rattle.crn_gated.specs.Layout.{gated_layout}

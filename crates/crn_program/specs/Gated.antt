@@ -1,5 +1,5 @@
 -- What comes of given segments in a network with gates, and of the gated completion after them.
-use Rattle.std.specs.Prelude.{ℕ, ◌≡◌, List, None, Some}
+use Rattle.std.specs.Prelude.{◌≡◌, List, None, Some}
 use Rattle.crn_fraction.specs.Rational.{ℚ}
 use Rattle.crn_net.specs.Network.{Network, Run, IsSettled, output}
 use Rattle.crn_net.specs.declared.Flow.{Flow}
