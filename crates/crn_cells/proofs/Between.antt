@@ -142,9 +142,9 @@ module _ (domain : Domain) (forms : List (List ℚ)) (m : ℕ) (order : List ℕ
       let below_hi : at (numbered forms m) z <ℚ at (numbered forms hi) z = rw (at-mix (numbered forms m) s.a x s.b y, at-mix (numbered forms hi) s.a x s.b y) s.below in
       met_at domain forms (suc m) z (IsIn-mix domain x y s.a s.b s.a_positive s.b_positive first.1.is_in second.1.is_in) (put_in c m order) (Names-insert m c order names)
       (ascend_insert forms z m c order asc
-      (λ i w r. ⊎_elim
+      (λ i w r. ⊎_elim {C = at (numbered forms (get_or order i 0)) z <ℚ at (numbered forms m) z}
       (λ (g : i < c - 1). <ℚ_trans (at (numbered forms (get_or order i 0)) z) (at (numbered forms lo) z) (at (numbered forms m) z) (asc i (c - 1) 0 g there) above_lo)
       (λ (g : c - 1 ≤ i). let e : c - 1 ≡ i = omega (arith, g, w, h) in subst (λ n. at (numbered forms (get_or order n 0)) z <ℚ at (numbered forms m) z) e above_lo) (cases_lt i (c - 1)))
-      (λ i w r. ⊎_elim
+      (λ i w r. ⊎_elim {C = at (numbered forms m) z <ℚ at (numbered forms (get_or order i 0)) z}
       (λ (g : c < i). <ℚ_trans (at (numbered forms m) z) (at (numbered forms hi) z) (at (numbered forms (get_or order i 0)) z) below_hi (asc c i 0 g r))
       (λ (g : i ≤ c). let e : c ≡ i = omega (arith, g, w) in subst (λ n. at (numbered forms m) z <ℚ at (numbered forms (get_or order n 0)) z) e below_hi) (cases_lt c i)))
