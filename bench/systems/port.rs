@@ -30,6 +30,8 @@ struct System {
     rows: Vec<Row>,
 }
 
+// Nothing reads what an answer holds; it goes into a black box.
+#[allow(dead_code)]
 enum Verdict {
     Found(Point),
     Refuted(Vec<i64>),
@@ -136,7 +138,9 @@ impl Divisor {
 
 // ---- systems
 fn sum_at(row: &Row, point: &Point) -> i128 {
-    (0..point.len).map(|i| row.entries[i] as i128 * point.entries[i] as i128).sum()
+    (0..point.len)
+        .map(|i| row.entries[i] as i128 * point.entries[i] as i128)
+        .sum()
 }
 
 fn meets(row: &Row, point: &Point) -> bool {
@@ -161,7 +165,10 @@ fn check(system: &System, multipliers: &[i64]) -> bool {
     };
     multipliers.len() == rows.len()
         && multipliers.iter().all(|multiplier| *multiplier >= 0)
-        && rows.iter().zip(multipliers).any(|(row, multiplier)| row.strict && *multiplier > 0)
+        && rows
+            .iter()
+            .zip(multipliers)
+            .any(|(row, multiplier)| row.strict && *multiplier > 0)
         && (0..system.columns).all(column_is_zero)
 }
 
@@ -183,8 +190,12 @@ fn refutes(system: &System, multiples: &[Multiple; 10]) -> bool {
         }
         sum == 0
     };
-    multiples.iter().all(|multiple| multiple.row < rows.len() && multiple.number >= 0)
-        && multiples.iter().any(|multiple| rows[multiple.row].strict && multiple.number > 0)
+    multiples
+        .iter()
+        .all(|multiple| multiple.row < rows.len() && multiple.number >= 0)
+        && multiples
+            .iter()
+            .any(|multiple| rows[multiple.row].strict && multiple.number > 0)
         && (0..system.columns).all(column_is_zero)
 }
 
@@ -227,7 +238,10 @@ fn point_over(numbers: &[i128], divisor: u128) -> Option<Point> {
     for i in 0..numbers.len() {
         entries[i] = over(numbers[i], divisor)?;
     }
-    Some(Point { entries, len: numbers.len() })
+    Some(Point {
+        entries,
+        len: numbers.len(),
+    })
 }
 
 fn opposite(row: &Row, strict: bool) -> Row {
@@ -235,7 +249,11 @@ fn opposite(row: &Row, strict: bool) -> Row {
     for i in 0..row.len {
         entries[i] = -row.entries[i];
     }
-    Row { entries, len: row.len, strict }
+    Row {
+        entries,
+        len: row.len,
+        strict,
+    }
 }
 
 struct Step {
@@ -252,7 +270,10 @@ impl Step {
         }
         let mut out = [0; 9];
         for i in 0..self.columns {
-            let number = self.pivot.wrapping_mul(numbers[i]).wrapping_sub(by.wrapping_mul(self.ray[i]));
+            let number = self
+                .pivot
+                .wrapping_mul(numbers[i])
+                .wrapping_sub(by.wrapping_mul(self.ray[i]));
             out[i] = self.divisor.quotient(number);
         }
         out
@@ -276,8 +297,19 @@ impl ActiveSet {
         for i in 0..9 {
             rays[i][i] = 1;
         }
-        let no_row = Row { entries: [0; 9], len: 1, strict: false };
-        ActiveSet { columns, rays, places: [None; 9], rows: [no_row; 9], vertex: [0; 9], den: 1 }
+        let no_row = Row {
+            entries: [0; 9],
+            len: 1,
+            strict: false,
+        };
+        ActiveSet {
+            columns,
+            rays,
+            places: [None; 9],
+            rows: [no_row; 9],
+            vertex: [0; 9],
+            den: 1,
+        }
     }
 
     fn adapt(&mut self, rows: &[Row]) {
@@ -368,10 +400,16 @@ impl ActiveSet {
     }
 
     fn multiples_of(&self, missed: usize, values: &Numbers) -> [Multiple; 10] {
-        let mut multiples = [Multiple { row: missed, number: self.den }; 10];
+        let mut multiples = [Multiple {
+            row: missed,
+            number: self.den,
+        }; 10];
         for column in 0..9 {
             multiples[column] = match self.places[column] {
-                Some(row) => Multiple { row, number: values[column].wrapping_neg() },
+                Some(row) => Multiple {
+                    row,
+                    number: values[column].wrapping_neg(),
+                },
                 None => Multiple { row: missed, number: 0 },
             };
         }
@@ -387,7 +425,12 @@ impl ActiveSet {
             ray = negated(&ray);
             pivot = pivot.wrapping_neg();
         }
-        let step = Step { ray, pivot, divisor: Divisor::of(self.den), columns: self.columns };
+        let step = Step {
+            ray,
+            pivot,
+            divisor: Divisor::of(self.den),
+            columns: self.columns,
+        };
         for other in 0..self.columns {
             if other != column && (values[other] != 0 || pivot != self.den) {
                 self.rays[other] = step.moved(&self.rays[other], values[other]);
@@ -504,7 +547,11 @@ impl Asking {
 
     // Takes the piece that holds at the point away from the region, and goes on with each part that is left.
     fn cover(&mut self, region: &mut System, point: Point) {
-        let Some(index) = self.pieces.iter().position(|rows| rows.iter().all(|row| meets(row, &point))) else {
+        let Some(index) = self
+            .pieces
+            .iter()
+            .position(|rows| rows.iter().all(|row| meets(row, &point)))
+        else {
             return;
         };
         let start = region.rows.len();
@@ -538,7 +585,11 @@ fn systems_of_maximum(columns: usize, size: i64, seed: u64) -> Vec<System> {
     let above = |i: usize, j: usize, strict: bool| difference(&forms[i], &forms[j], columns, strict);
     let piece = |i: usize| (0..10).filter(|j| *j != i).map(|j| above(i, j, false)).collect();
     let pieces: Vec<Vec<Row>> = (0..10).map(piece).collect();
-    let mut asking = Asking { active: ActiveSet::start(columns), pieces: pieces.clone(), asked: Vec::new() };
+    let mut asking = Asking {
+        active: ActiveSet::start(columns),
+        pieces: pieces.clone(),
+        asked: Vec::new(),
+    };
     for i in 0..10 {
         for j in i + 1..10 {
             for last in [above(i, j, true), above(j, i, true)] {
@@ -547,8 +598,17 @@ fn systems_of_maximum(columns: usize, size: i64, seed: u64) -> Vec<System> {
             }
         }
     }
-    let origin = Point { entries: [0; 9], len: columns };
-    asking.cover(&mut System { columns, rows: Vec::new() }, origin);
+    let origin = Point {
+        entries: [0; 9],
+        len: columns,
+    };
+    asking.cover(
+        &mut System {
+            columns,
+            rows: Vec::new(),
+        },
+        origin,
+    );
     asking.asked
 }
 
@@ -577,7 +637,11 @@ fn read(line: &str) -> System {
         for entry in &mut entries[..columns] {
             *entry = words.next().unwrap();
         }
-        rows.push(Row { entries, len: columns, strict });
+        rows.push(Row {
+            entries,
+            len: columns,
+            strict,
+        });
     }
     System { columns, rows }
 }
@@ -591,7 +655,7 @@ fn time(name: &str, systems: &[System], rounds: usize, answer: fn(&mut ActiveSet
         let mut active = ActiveSet::start(1);
         let from = Instant::now();
         for system in systems {
-            counts[black_box(answer(&mut active, system))] += 1;
+            counts[answer(&mut active, system)] += 1;
         }
         best = best.min(from.elapsed().as_nanos() / systems.len() as u128);
     }
@@ -609,14 +673,18 @@ fn main() {
     let text = std::fs::read_to_string(&words[1]).unwrap();
     let systems: Vec<System> = text.lines().map(read).collect();
     let rounds = words.get(2).map_or(9, |word| word.parse().unwrap());
-    time("solve", &systems, rounds, |active, system| match solve(active, system) {
-        Some(Verdict::Found(_)) => 0,
-        Some(Verdict::Refuted(_)) => 1,
-        None => 2,
+    time("solve", &systems, rounds, |active, system| {
+        match black_box(solve(active, system)) {
+            Some(Verdict::Found(_)) => 0,
+            Some(Verdict::Refuted(_)) => 1,
+            None => 2,
+        }
     });
-    time("decide", &systems, rounds, |active, system| match decide(active, system) {
-        Some(Some(_)) => 0,
-        Some(None) => 1,
-        None => 2,
+    time("decide", &systems, rounds, |active, system| {
+        match black_box(decide(active, system)) {
+            Some(Some(_)) => 0,
+            Some(None) => 1,
+            None => 2,
+        }
     });
 }
