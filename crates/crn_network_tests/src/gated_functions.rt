@@ -232,7 +232,7 @@ fn thirty_two_forms_and_one_more(rt: HostRuntime) -> Result<(), Fail> {
 
 #[test]
 fn a_function_that_other_lines_follow(rt: HostRuntime) -> Result<(), Fail> {
-    let text = b"function gated\n\nvariables 2\nform x2 if x1\ninput 1\n";
+    let text = b"function gated\n\nvariables 2\nform x2 if x1\ninput 1\n".as_slice();
     let lines = token_lines(rt.alloc(), text)?;
     let (function, next) = read_gated_lines(rt.alloc(), text, &lines)?;
     assert_eq!(rt; function.variables, 2);
