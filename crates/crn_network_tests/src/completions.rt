@@ -1,13 +1,15 @@
 //! Tests of crn_completer.
 
-use crate::shared::{amount, state};
+ghost use Rattle.crn_fraction.specs.Rational.{0ℚ, ◌≤ℚ◌};
+
+use crate::shared::{amount, network_of, state};
 use crn_completer::{Completer, CompletionTooBig, lacks_reactant, least_quotient};
 use crn_fraction::Frac;
-use crn_net_text::read_network;
 use crn_segments::{Flow, Replay};
+use std::alloc::Global;
 use std::test::Fail;
 
-const NETWORK: &[u8] = b"crn 1 direct
+const NETWORK: &str = "crn 1 direct
 species 5
 input S1
 output S4
@@ -19,8 +21,7 @@ S5 -> S4
 
 #[test]
 fn a_completion_takes_each_reaction_in_turn(rt: HostRuntime) -> Result<(), Fail> {
-    let network = read_network(rt.alloc(), NETWORK)?;
-    assert!(rt; network.species() == 5);
+    let network = network_of(rt.alloc(), NETWORK, 5, 3)?;
     let mut completer = Completer::new(rt.alloc(), &network)?;
     let state = state(rt.alloc(), 5, amount(3, 1)?, amount(0, 1)?, amount(1, 1)?)?;
     let mut replay = Replay::new(rt.alloc(), &network, state)?;
@@ -39,38 +40,53 @@ fn a_completion_takes_each_reaction_in_turn(rt: HostRuntime) -> Result<(), Fail>
     Ok(())
 }
 
+// Why a state of this amount and two of the greatest number has no completion, where no flow comes before.
+fn refusal(alloc: Global, first: Frac) -> Result<CompletionTooBig, Fail>
+    requires { 0ℚ ≤ℚ first }
+{
+    let network = network_of(alloc, NETWORK, 5, 3)?;
+    let most = amount(i64::MAX, 1)?;
+    let state = state(alloc, 5, first, most, most)?;
+    let mut completer = Completer::new(alloc, &network)?;
+    let mut replay = Replay::new(alloc, &network, state)?;
+    match completer.complete(&mut replay) {
+        Err(refusal) if completer.flows().is_empty() => Ok(refusal),
+        _ => Err("it has flows")?,
+    }
+}
+
 #[test]
 fn numbers_that_are_too_big(rt: HostRuntime) -> Result<(), Fail> {
-    let network = read_network(rt.alloc(), NETWORK)?;
-    assert!(rt; network.species() == 5);
-    let mut completer = Completer::new(rt.alloc(), &network)?;
-    let most = amount(i64::MAX, 1)?;
-    for (num, den, reaction, species) in [(1, i64::MAX, 1, 1), (0, 1, 2, 4)] {
-        let state = state(rt.alloc(), 5, amount(num, den)?, most, most)?;
-        let mut replay = Replay::new(rt.alloc(), &network, state)?;
-        let refusal = CompletionTooBig { reaction, species };
-        assert!(rt;
-            completer.complete(&mut replay) == Err(refusal),
-            "{refusal}"
-        );
-        assert!(rt; completer.flows().is_empty(), "{refusal}");
-    }
+    let quotient = CompletionTooBig {
+        reaction: 1,
+        species: 1,
+    };
+    assert!(rt; refusal(rt.alloc(), amount(1, i64::MAX)?)? == quotient);
+    let product = CompletionTooBig {
+        reaction: 2,
+        species: 4,
+    };
+    assert!(rt; refusal(rt.alloc(), amount(0, 1)?)? == product);
     Ok(())
 }
 
 #[test]
 fn the_flux_that_the_reactants_allow(rt: HostRuntime) -> Result<(), Fail> {
-    let network = read_network(rt.alloc(), NETWORK)?;
-    assert!(rt; network.species() == 5);
-    assert!(rt; network.reaction_count() == 3);
-    let (none, one, some) = (amount(0, 1)?, amount(1, 1)?, amount(5, 2)?);
-    let half = amount(3, 2)?;
+    let network = network_of(rt.alloc(), NETWORK, 5, 3)?;
+    let (one, some) = (amount(1, 1)?, amount(5, 2)?);
     let full = state(rt.alloc(), 5, amount(3, 1)?, some, one)?;
     assert!(rt; !lacks_reactant(network.reaction(1), &full));
     assert!(rt; !lacks_reactant(network.reaction(2), &full));
     assert!(rt; lacks_reactant(network.reaction(3), &full));
-    assert!(rt; least_quotient(network.reaction(1), &full) == Ok(half));
+    assert!(rt; least_quotient(network.reaction(1), &full) == Ok(amount(3, 2)?));
     assert!(rt; least_quotient(network.reaction(2), &full) == Ok(one));
+    Ok(())
+}
+
+#[test]
+fn a_quotient_that_is_too_big(rt: HostRuntime) -> Result<(), Fail> {
+    let network = network_of(rt.alloc(), NETWORK, 5, 3)?;
+    let (some, none) = (amount(5, 2)?, amount(0, 1)?);
     let tiny = state(rt.alloc(), 5, amount(1, i64::MAX)?, some, none)?;
     assert!(rt; lacks_reactant(network.reaction(2), &tiny));
     assert!(rt; least_quotient(network.reaction(1), &tiny) == Err(1));

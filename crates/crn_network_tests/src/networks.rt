@@ -1,5 +1,6 @@
 //! Tests of crn_net.
 
+use crate::shared::{MINIMUM, printed};
 use crn_net::{Ends, Network, NetworkError, Part, Parts, Rails, Reaction};
 use std::alloc::Global;
 use std::test::Fail;
@@ -57,19 +58,17 @@ fn minimum(alloc: Global) -> Result<Parts, Fail> {
 #[test]
 fn the_minimum_of_two_variables(rt: HostRuntime) -> Result<(), Fail> {
     let network = Network::make(rt.alloc(), minimum(rt.alloc())?)?;
-    assert!(rt; network.rails() == Rails::Dual);
+    assert!(rt; printed(rt.alloc(), &network)?.as_str() == MINIMUM);
+    Ok(())
+}
+
+#[test]
+fn takers_of_the_minimum(rt: HostRuntime) -> Result<(), Fail> {
+    let network = Network::make(rt.alloc(), minimum(rt.alloc())?)?;
     assert!(rt; network.species() == 16);
-    assert!(rt; network.reaction_count() == 13);
-    let last = network.reaction(13);
-    assert!(rt; last.takes.as_slice() == [one(13), one(14)].as_slice());
-    assert!(rt; last.gives.as_slice() == [one(15)].as_slice());
-    assert!(rt; network.inputs() == [Ends::Pair(1, 2), Ends::Pair(3, 4)].as_slice());
-    assert!(rt; network.output() == Ends::Pair(15, 16));
-    assert!(rt; network.context() == None);
-    assert!(rt; network.takers(1) == [1].as_slice());
-    assert!(rt; network.takers(12) == [10].as_slice());
-    assert!(rt; network.takers(14) == [13].as_slice());
-    assert!(rt; network.takers(16).is_empty());
+    for (species, takers) in [(1, [1].as_slice()), (12, &[10]), (14, &[13]), (16, &[])] {
+        assert!(rt; network.takers(species) == takers, "S{species}");
+    }
     Ok(())
 }
 

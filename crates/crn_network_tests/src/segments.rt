@@ -2,9 +2,8 @@
 
 ghost use Rattle.std.specs.Prelude.{◌≡◌, length, IfOk};
 
-use crate::shared::{MINIMUM, amount, state};
+use crate::shared::{MINIMUM, amount, network_of, state};
 use crn_fraction::Frac;
-use crn_net_text::read_network;
 use crn_segments::{Flow, Replay, Segment, State, StepError};
 use std::alloc::Global;
 use std::test::Fail;
@@ -77,8 +76,7 @@ fn has_amounts(replay: &Replay<'_>, amounts: &[Frac]) -> bool {
 
 #[test]
 fn refused_steps_change_nothing(rt: HostRuntime) -> Result<(), Fail> {
-    let network = read_network(rt.alloc(), MINIMUM.as_bytes())?;
-    assert!(rt; network.species() == 16);
+    let network = network_of(rt.alloc(), MINIMUM, 16, 13)?;
     let mut replay = Replay::new(rt.alloc(), &network, start(rt.alloc())?)?;
     let amounts = [Frac::of(3, 2)?, Frac::of(1, 2)?, Frac::of(2, 1)?];
     for (flows, refusal) in [
@@ -104,8 +102,7 @@ fn refused_steps_change_nothing(rt: HostRuntime) -> Result<(), Fail> {
 
 #[test]
 fn steps_happen_one_after_another(rt: HostRuntime) -> Result<(), Fail> {
-    let network = read_network(rt.alloc(), MINIMUM.as_bytes())?;
-    assert!(rt; network.species() == 16);
+    let network = network_of(rt.alloc(), MINIMUM, 16, 13)?;
     let mut replay = Replay::new(rt.alloc(), &network, start(rt.alloc())?)?;
     let (half, one, zero) = (Frac::of(1, 2)?, Frac::ONE, Frac::ZERO);
     replay.step(&segment(rt.alloc(), &[(1, 1), (3, 1)])?)?;

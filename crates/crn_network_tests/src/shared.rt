@@ -5,7 +5,7 @@ ghost use Rattle.crn_fraction.specs.Rational.{0ℚ, ◌≤ℚ◌};
 
 use crn_fraction::Frac;
 use crn_net::Network;
-use crn_net_text::print_network;
+use crn_net_text::{print_network, read_network};
 use crn_segments::State;
 use std::alloc::{AllocError, Global};
 use std::test::Fail;
@@ -109,4 +109,16 @@ pub fn copies(alloc: Global, part: &str, count: usize) -> Result<String, AllocEr
         text.push_str(part)?;
     }
     Ok(text)
+}
+
+/// The network of a text, which is to have so many species and reactions.
+pub fn network_of(alloc: Global, text: &str, species: u32, reactions: u32) -> Result<Network, Fail>
+    ensures species { IfOk result (λ network. network.species ≡ species) }
+    ensures reactions { IfOk result (λ network. length network.reactions ≡ reactions) }
+{
+    let network = read_network(alloc, text.as_bytes())?;
+    if network.species() != species || network.reaction_count() != reactions {
+        Err("another network")?
+    }
+    Ok(network)
 }
