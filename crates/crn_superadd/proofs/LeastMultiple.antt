@@ -7,14 +7,14 @@ use Rattle.std.proofs.lemmas.Bool.{cases_lt}
 use Rattle.crn_fraction.specs.Rational.{ℚ, whole, 0ℚ, ◌+ℚ◌, ◌-ℚ◌, ◌*ℚ◌, ◌<ℚ◌}
 use Rattle.crn_fraction.proofs.Core.{pos_times}
 use Rattle.crn_fraction.proofs.Ratios.{times_pos}
-use Rattle.crn_fraction.proofs.Ring.{ring_ℚ, q-writes, whole-+ℤ, whole-*ℤ}
+use Rattle.crn_fraction.proofs.Ring.{whole-+ℤ, whole-*ℤ}
 use Rattle.crn_fraction.proofs.Order.{over-<ℚ}
 use Rattle.crn_fraction.proofs.Linear.{<ℚ_trans, difference_positive}
 use Rattle.crn_linear.specs.Forms.{at, wholes, minus}
 use Rattle.crn_linear.specs.Rows.{dot, value}
-use Rattle.crn_linear.specs.Cleared.{cleared, unit_of}
-use Rattle.crn_linear.proofs.Units.{length-numerators, length-unit_of}
-use Rattle.crn_linear.proofs.Minus.{length-minus}
+use Rattle.crn_linear.specs.Cleared.{cleared}
+use Rattle.crn_linear.proofs.Minus.{length-minus, at-minus}
+use Rattle.crn_linear.proofs.FormRows.{length-cleared}
 use Rattle.crn_linear.proofs.Unique.{meets_cleared}
 use Rattle.crn_formula.proofs.Multiples.{at-scale}
 use Rattle.crn_cells.specs.Cells.{numbered, Ascend}
@@ -54,22 +54,6 @@ at-wholes [] p = refl
 at-wholes (a ∷ r) [] = refl
 at-wholes (a ∷ r) (t ∷ p) =
     ap (λ z. whole a *ℚ whole t +ℚ z) (at-wholes r p) ∙ ap (λ z. z +ℚ whole (dot r p)) (sym (whole-*ℤ a t)) ∙ sym (whole-+ℤ (a *ℤ t) (dot r p))
-
-at-minus : (a b x : List ℚ) → length a ≡ length b → at (minus a b) x ≡ at a x -ℚ at b x
-at-minus [] [] x e = ring_ℚ [] (search q-writes depth 20) (search q-writes depth 20) refl
-at-minus [] (b ∷ bs) x e = absurd (omega (arith, e))
-at-minus (a ∷ as') [] x e = absurd (omega (arith, e))
-at-minus (a ∷ as') (b ∷ bs) [] e = ring_ℚ [] (search q-writes depth 20) (search q-writes depth 20) refl
-at-minus (a ∷ as') (b ∷ bs) (t ∷ x) e =
-    ap (λ z. (a -ℚ b) *ℚ t +ℚ z) (at-minus as' bs x (omega (arith, e))) ∙ step a b t (at as' x) (at bs x)
-  where
-    step : (a b t u v : ℚ) → (a -ℚ b) *ℚ t +ℚ (u -ℚ v) ≡ (a *ℚ t +ℚ u) -ℚ (b *ℚ t +ℚ v)
-    step a b t u v = ring_ℚ (a ∷ b ∷ t ∷ u ∷ v ∷ []) (search q-writes depth 20) (search q-writes depth 20) refl
-
--- a cleared row has the columns of the form
-pub length-cleared : (f : List ℚ) → length (cleared f) ≡ length f
-unfolding cleared
-length-cleared f = length-numerators (unit_of f) ∙ length-unit_of f
 
 -- a row at a multiple of a whole point and another
 value-sum : (r p q : List ℤ) (m : ℕ) → value r (plus (multiple m (wholes p)) (wholes q)) ≡ whole (pos m *ℤ dot r p +ℤ dot r q)

@@ -1,5 +1,5 @@
 -- The orthant: its columns, that it is a domain, and that the unit points are in it.
-use Rattle.std.proofs.Common.{◌≡◌, ℕ, zero, suc, ◌≤◌, ◌-◌, List, [], ◌∷◌, ◌++◌, length, take, refl, sym, ap, ◌∙◌, arith, subst}
+use Rattle.std.proofs.Common.{◌≡◌, ℕ, zero, suc, ◌≤◌, ◌+◌, ◌-◌, List, [], ◌∷◌, ◌++◌, length, take, refl, sym, ap, ◌∙◌, arith, subst}
 use Rattle.std.specs.Prelude.{pos, false, replicate, All}
 use Rattle.std.proofs.lemmas.List.{length-map, length-replicate, length-append, length_push, take-append-le}
 use Rattle.std.proofs.lemmas.List.Elements.{All-set, All-replicate, All-map}
@@ -21,7 +21,8 @@ length-orthant_rows n zero = refl
 length-orthant_rows n (suc m) = length_push (orthant_rows n m) (record { entries = unit n m; strict = false }) ∙ ap (λ t. t + 1) (length-orthant_rows n m) ∙ omega arith
 
 take_all : {X : Type 0} (xs : List X) (n : ℕ) → length xs ≡ n → take n xs ≡ xs
-take_all [] n e = subst (λ m. take m [] ≡ []) e refl
+take_all [] zero e = refl
+take_all [] (suc n) e = absurd (omega (arith, e))
 take_all (x ∷ xs) zero e = absurd (omega (arith, e))
 take_all (x ∷ xs) (suc n) e = ap (λ l. x ∷ l) (take_all xs n (omega (arith, e)))
 
