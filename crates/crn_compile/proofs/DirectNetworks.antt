@@ -58,8 +58,8 @@ module _ (k : ℕ) (pieces : List Piece) (forms : List (List ℚ)) (used : AreUs
 
   -- so the layout computes the function, which is not affine
   pub layout_computes : (kind : Kind) → IsGivenByPieces kind → is_affine k kind ≡ false → pieces ≡ pieces_of_kind kind → ComputesFunction (direct_layout k forms) k kind
-  layout_computes (ByFormula e) given linear same = absurd given
-  layout_computes (ByLeast gs) given linear same = absurd given
+  layout_computes (ByFormula e) given linear same xs amounts = absurd given
+  layout_computes (ByLeast gs) given linear same xs amounts = absurd given
   layout_computes (ByPieces ps) given linear same xs amounts =
       subst (λ b. IsSomeAnd (pieces_value ps (cond b (xs ++ whole (pos 1) ∷ []) xs)) (λ v. StablyComputes (direct_layout k forms) xs v)) (sym linear)
       (subst (λ qs. IsSomeAnd (pieces_value qs xs) (λ v. StablyComputes (direct_layout k forms) xs v)) same (pieces_computed xs amounts))
