@@ -1,12 +1,12 @@
 -- What the code answers, over plain lists.
-use Rattle.std.proofs.Common.{◌≡◌, ℕ, suc, ◌<◌, ◌≤◌, ◌+◌, ◌*◌, ◌^◌, List, [], ◌∷◌, length, get_or, Bool, true, false, refl, sym, ap, ◌∙◌, arith, subst, inl, inr, ⊎_elim}
-use Rattle.std.specs.Prelude.{ℤ, pos, Some, None, All, Any}
+use Rattle.std.proofs.Common.{◌≡◌, ℕ, ◌<◌, ◌≤◌, List, [], ◌∷◌, length, get_or, Bool, true, false, refl, sym, ap, ◌∙◌, arith, subst, inl, inr, ⊎_elim}
+use Rattle.std.specs.Prelude.{ℤ, Some, None, All}
 use Rattle.std.specs.List.{find}
 use Rattle.std.proofs.lemmas.Bool.{cond_both}
-use Rattle.std.proofs.lemmas.List.{length-replicate, length-map}
-use Rattle.crn_fraction.specs.Rational.{ℚ, whole, 0ℚ, ◌<ℚ◌, ◌+ℚ◌}
+use Rattle.std.proofs.lemmas.List.{length-map}
+use Rattle.crn_fraction.specs.Rational.{ℚ, whole, ◌+ℚ◌}
 use Rattle.crn_fraction.proofs.Linear.{not_<ℚ}
-use Rattle.crn_linear.specs.Forms.{wholes, entry_of}
+use Rattle.crn_linear.specs.Forms.{wholes}
 use Rattle.crn_formula.specs.Pieces.{Piece, Domain, IsIn, IsDomain, Covers, Agree, columns_of}
 use Rattle.crn_formula.specs.Domains.{unit, orthant}
 use Rattle.crn_maxmin.specs.Marked.{Marked, AreLong, IsMarkedBy, AreAllCells, numbered_forms}
