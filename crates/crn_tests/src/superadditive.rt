@@ -3,7 +3,7 @@
 ghost use Rattle.std.specs.Prelude.{◌<◌, length};
 
 use crate::shared::{LEAST_OF_TWO_FORMS, printed};
-use crn_compile::{DirectError, compile_superadditive};
+use crn_compile::{CompileError, DirectError, compile_superadditive};
 use crn_form_text::print_form;
 use crn_formula::{Function, FunctionKind};
 use crn_function_text::read_function;
@@ -37,8 +37,9 @@ fn used_text(alloc: Global, text: &str) -> Result<String, Fail> {
 // What is told of a refusal, without the points that are free.
 fn refusal_text(alloc: Global, error: &DirectError) -> Result<String, AllocError> {
     match error {
-        DirectError::Compile(cause) => format!(in alloc; "{cause}"),
-        DirectError::NotSuperadditive { .. } => format!(in alloc; "{error}"),
+        DirectError::Compile(CompileError::NotCovered { .. }) => format!(in alloc; "not covered"),
+        DirectError::Compile(_) => format!(in alloc; "another cause"),
+        DirectError::NotSuperadditive { .. } => format!(in alloc; "not superadditive"),
         DirectError::Negative { point } => {
             let mut text = format!(in alloc; "negative at")?;
             for i in 0..point.len() {
@@ -100,7 +101,7 @@ when -x1 >= 0
 fn direct_networks(rt: HostRuntime) -> Result<(), Fail> {
     for (pieces, wanted) in [
         (LEAST_OF_TWO, LEAST_OF_TWO_FORMS),
-        (GREATEST_OF_TWO, "the function is not superadditive"),
+        (GREATEST_OF_TWO, "not superadditive"),
         (
             "function pieces
 variables 2
@@ -121,7 +122,7 @@ variables 2
 piece x1
 when x2 - x1 >= 0
 ",
-            "no piece holds at a point",
+            "not covered",
         ),
     ] {
         assert!(rt;
