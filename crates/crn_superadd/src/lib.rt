@@ -112,7 +112,8 @@ fn refutation(checked: &Checked, cells: &[MarkedCell], low: usize, high: usize) 
     requires few { columns_of checked.now.domain ≤ 8 }
     requires cells { AreAllCells checked.now.domain (pieces_in checked.now) (cells_of cells.now) }
     requires few_cells { length cells.now ≤ 4096 }
-    requires points { All (λ c. IsMarkedBy checked.now.domain (pieces_in checked.now) (marked_of c) c.cell.point) cells.now }
+    requires points { All (λ c.
+        IsMarkedBy checked.now.domain (pieces_in checked.now) (marked_of c) c.cell.point) cells.now }
     requires places { IsFirstBelow (cells_of cells.now) low high }
     ensures refused { IsRefused checked.now.domain (pieces_in checked.now) result }
     ensures multiple { HasSmallMultiple result }
