@@ -3,7 +3,7 @@ use Rattle.std.proofs.Common.{◌≡◌, ◌⊎◌, inl, inr, ⊎_elim, ℕ, Lis
 use Rattle.crn_compile.specs.Alike as cause
 use Rattle.crn_compile.specs.declared.CompileError.{CompileError}
 use Rattle.crn_compile.specs.declared.CompileError.TheVariants.{Disagree, NotCovered, TooBig, TooManyRows}
-use Rattle.crn_program.specs.Finding.{Outcome, NotCompiled, Finding, Comes, status_of_cause, status_of_outcome, status_of}
+use Rattle.crn_program.specs.Finding.{Outcome, RefusedFunction, Finding, Comes, status_of_cause, status_of_outcome, status_of}
 use Rattle.crn_program.specs.Answer.{Answers}
 use Rattle.crn_program.specs.Alike.{IsSolvingLimit, AreSameButForPoint, MayBothBeFound, IsOfSolving, IsOfPoint}
 use Rattle.crn_program.specs.declared.status.Status.{Status}
@@ -17,7 +17,7 @@ limit_cause (TooManyRows kept) limit = inr refl
 limit_cause e limit = absurd limit
 
 limit_status : (o : Outcome) → IsSolvingLimit o → IsOfSolving (status_of_outcome o)
-limit_status (NotCompiled k e) limit = limit_cause e limit
+limit_status (RefusedFunction k e) limit = limit_cause e limit
 limit_status o limit = absurd limit
 
 -- ---- that of two refusals that differ in the point
@@ -31,7 +31,7 @@ point_cause (NotCovered p) (NotCovered q) same = (refl, inr refl)
 point_cause e f same = absurd same
 
 point_status : (o p : Outcome) → AreSameButForPoint o p → IsOneOfPoint (status_of_outcome o) (status_of_outcome p)
-point_status (NotCompiled k e) (NotCompiled l f) same = point_cause e f same.1
+point_status (RefusedFunction k e) (RefusedFunction l f) same = point_cause e f same.1
 point_status o p same = absurd same
 
 -- ---- two findings
@@ -50,6 +50,6 @@ one_status words bytes s t text other first second u v =
     ⊎_elim
     (λ same. (same.0, inl same.1))
     (λ both.
-    let found = found_status first.finding second.finding both (subst (λ x. ¬ IsOfSolving x) first.status_is u) (subst (λ x. ¬ IsOfSolving x) second.status_is v) in
+    let found = found_status first.what second.what both (subst (λ x. ¬ IsOfSolving x) first.status_is u) (subst (λ x. ¬ IsOfSolving x) second.status_is v) in
     (first.status_is ∙ found.0 ∙ sym second.status_is, inr (subst IsOfPoint (sym first.status_is) found.1)))
     (one_answer words bytes s t text other first second)

@@ -23,7 +23,7 @@ use Rattle.crn_gated.specs.Grammar.{PlainGated}
 use Rattle.crn_gated.specs.JobGrammar.{PlainGatedJob}
 use Rattle.crn_gated.specs.Layout.{gated_layout}
 use Rattle.crn_bulk.specs.Generator.{bulk_job, bulk_number}
-use Rattle.crn_program.specs.Answer.{IsFunctionAnswer, IsNetworkAnswer, IsJobAnswer, IsRunAnswer, IsGatedAnswer, IsGatedJobAnswer}
+use Rattle.crn_program.specs.Texts.{IsFunctionAnswer, IsNetworkAnswer, IsJobAnswer, IsRunAnswer, IsGatedAnswer, IsGatedJobAnswer}
 use Rattle.crn_program.specs.Bulk.{halves}
 use Rattle.crn_program.specs.Report.{EndsWith, line, completion_report, run_report, bulk_report}
 use Rattle.crn_program.specs.Value.{IsValue, IsNetworkOf}
