@@ -15,6 +15,7 @@ use Rattle.crn_maxmin.specs.Answers.{HasTooManyNodes}
 use Rattle.crn_maxmin.proofs.OneFormula.{few_cells, one_count, few_nodes}
 use Rattle.crn_compile.specs.Networks.{IsNetworkOf, IsNetworkOfPieces}
 use Rattle.crn_compile.specs.Refusals.{IsRefused, IsRefusedByPieces}
+use Rattle.crn_compile.specs.DirectRefusals.{IsOfNoFormula}
 use Rattle.crn_compile.specs.Alike.{IsSolvingLimit, IsFoundBySolving, AreAlike}
 use Rattle.crn_compile.specs.declared.CompileError.{CompileError}
 use Rattle.crn_compile.specs.declared.CompileError.TheVariants.{TooManyForms, BigCondition, BigDifference, Disagree, NotCovered, TooBig, TooManyRows, TooManyCells, TooManyNodes, Memory}
@@ -155,7 +156,7 @@ module _ (domain : Domain) (ps : List Piece) where
   found_by_solving Memory prepared other is = other refl
   found_by_solving e prepared other is = tt
 
-  alike_by_pieces : (a b : CompileError) → a ≢ Memory → b ≢ Memory → IsRefusedByPieces domain ps a → IsRefusedByPieces domain ps b → AreAlike a b
+  pub alike_by_pieces : (a b : CompileError) → a ≢ Memory → b ≢ Memory → IsRefusedByPieces domain ps a → IsRefusedByPieces domain ps b → AreAlike a b
   alike_by_pieces a b u v first second =
       ⊎_elim
       (λ limit. inr (inr (inl (limit, found_by_solving b (prepared_by a limit first) v second))))
@@ -174,6 +175,21 @@ module _ (domain : Domain) (ps : List Piece) where
 
   limit_by_pieces : (k : ℕ) (net : Network) (e : CompileError) → e ≢ Memory → IsNetworkOfPieces k domain ps net → IsRefusedByPieces domain ps e → IsSolvingLimit e
   limit_by_pieces k net e other is refused = ⊎_elim (λ limit. limit) (λ at. absurd (none_beside k net e is at)) (placed e other refused)
+
+  -- ---- pieces that were checked
+
+  -- where they have not too many cells, nothing is told but a solving limit and what the formula may be refused for
+  pub only_solving : AreChecked domain ps → ¬ AreTooManyCells domain (numbered_forms ps) → (e : CompileError) → e ≢ Memory → IsOfNoFormula e → IsRefusedByPieces domain ps e → IsSolvingLimit e
+  only_solving checked few e other unformed refused = ⊎_elim (λ limit. limit) (λ at. absurd (none at)) (placed e other refused)
+    where
+      of_nodes : AtNodes e → ⊥
+      of_nodes (Here fails (n, also, has, is)) = subst IsOfNoFormula is unformed
+      of_nodes (Behind holds none) = none
+
+      none : AtForms e → ⊥
+      none at =
+          let p = checked.prepared in
+          of_nodes (past e few (past e checked.covers (past e checked.agree (past e p.differences (past e p.conditions (past e p.few at))))))
 
 -- ---- each kind
 

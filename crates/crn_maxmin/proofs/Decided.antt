@@ -1,4 +1,4 @@
--- Pieces that were checked have a formula of at most 2,048 nodes, or there is a cause why they have none.
+-- Pieces that were checked have at most 4,096 cells and a formula of at most 2,048 nodes, or there is a cause why not.
 use Rattle.std.proofs.Common.{◌≡◌, ◌⊎◌, inl, inr, ⊎_elim, ℕ, ◌<◌, ◌≤◌, List, [], ◌∷◌, length, map, refl, sym, ap, ap₂, ◌∙◌, subst, arith}
 use Rattle.std.specs.Prelude.{◌≢◌, All, Some}
 use Rattle.std.proofs.lemmas.Bool.{cases_lt}
@@ -14,7 +14,7 @@ use Rattle.crn_cells.specs.Answers as cells
 use Rattle.crn_cells.specs.declared.CellsError.{CellsError}
 use Rattle.crn_cells.specs.declared.CellsError.TheVariants as no_cells
 use Rattle.crn_cells.proofs.Decided as deciding
-use Rattle.crn_maxmin.specs.Marked.{Marked, numbered_forms, IsMarked}
+use Rattle.crn_maxmin.specs.Marked.{Marked, numbered_forms, IsMarked, AreAllCells}
 use Rattle.crn_maxmin.specs.Conversion.{formula_of}
 use Rattle.crn_maxmin.specs.Answers.{IsFormulaOf, IsRefused}
 use Rattle.crn_maxmin.specs.declared.MaxminError.{MaxminError}
@@ -52,17 +52,28 @@ module _ (D : Domain) (P : List Piece) (checked : AreChecked D P) where
       let (ms, all, are) = marks orders (All-tail (IsCell D F) o orders each) in
       (c ∷ ms, All-cons (IsMarked D P) c ms marked all, ap₂ (λ a l. a ∷ l) is are)
 
-  -- the formula of all cells has few nodes, or too many
-  formula_decided : (orders : List (List ℕ)) → AreCells D F orders → length orders ≤ 4096 → HasFormula D P ⊎ IsRefusedForCause D P
-  formula_decided orders are few =
+  -- all cells with their forms, of which there are at most 4,096
+  abbrev pub HasFewCells : Type 0
+  HasFewCells = (cells : List Marked) × AreAllCells D P cells × (length cells ≤ 4096)
+
+  all_marked : (orders : List (List ℕ)) → AreCells D F orders → length orders ≤ 4096 → HasFewCells
+  all_marked orders are few =
       let (ms, marked, same) = marks orders are.each in
-      let f = formula_of F ms in
-      let is : IsFormulaOf D P f = record {
-        cells = ms;
-        all = record { marked = marked; orders = subst (AreCells D F) (sym same) are };
-        few = omega (arith, few, ap (length {A = List ℕ}) same, length-map ms (λ (c : Marked). c.order));
-        is_formula = refl;
-      } in
+      (ms, record { marked = marked; orders = subst (AreCells D F) (sym same) are }, omega (arith, few, ap (length {A = List ℕ}) same, length-map ms (λ (c : Marked). c.order)))
+
+  -- there are so few, or there is a cause why they are not known
+  pub cells_decided : HasFewCells ⊎ deciding.IsRefusedForCause D F
+  cells_decided = go (deciding.decided D checked.is_domain F (long_forms D P (long_pieces D P checked.long)) (distinct_forms_differ P))
+    where
+      go : ((orders : List (List ℕ)) × AreCells D F orders × (length orders ≤ 4096)) ⊎ deciding.IsRefusedForCause D F → HasFewCells ⊎ deciding.IsRefusedForCause D F
+      go (inl (orders, are, few)) = inl (all_marked orders are few)
+      go (inr cause) = inr cause
+
+  -- the formula of all cells has few nodes, or too many
+  formula_decided : HasFewCells → HasFormula D P ⊎ IsRefusedForCause D P
+  formula_decided (cells, all, few) =
+      let f = formula_of F cells in
+      let is : IsFormulaOf D P f = record { cells = cells; all = all; few = few; is_formula = refl } in
       ⊎_elim (λ (many : 2048 < node_count f). inr (TooManyNodes (node_count f), (λ e. cc e), (f, is, refl, many))) (λ (h : node_count f ≤ 2048). inl (f, is, h)) (cases_lt 2048 (node_count f))
 
   cells_refused : (e : CellsError) → e ≢ no_cells.Memory → cells.IsRefused D F e → IsRefusedForCause D P
@@ -73,8 +84,8 @@ module _ (D : Domain) (P : List Piece) (checked : AreChecked D P) where
 
   -- there is a formula, or a cause why there is none
   pub decided : HasFormula D P ⊎ IsRefusedForCause D P
-  decided = go (deciding.decided D checked.is_domain F (long_forms D P (long_pieces D P checked.long)) (distinct_forms_differ P))
+  decided = go cells_decided
     where
-      go : ((orders : List (List ℕ)) × AreCells D F orders × (length orders ≤ 4096)) ⊎ deciding.IsRefusedForCause D F → HasFormula D P ⊎ IsRefusedForCause D P
-      go (inl (orders, are, few)) = formula_decided orders are few
+      go : HasFewCells ⊎ deciding.IsRefusedForCause D F → HasFormula D P ⊎ IsRefusedForCause D P
+      go (inl few) = formula_decided few
       go (inr (e, cause, h)) = inr (cells_refused e cause h)

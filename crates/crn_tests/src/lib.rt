@@ -8,3 +8,5 @@ mod compiled_functions;
 mod max_min_formulas;
 #[cfg(test)]
 mod shared;
+#[cfg(test)]
+mod superadditive;

@@ -1,0 +1,11 @@
+pub mod Orthant
+pub mod Used
+pub mod Least
+pub mod LeastMultiple
+pub mod Negative
+pub mod Sizes
+pub mod Searching
+pub mod Answering
+pub mod AtWholes
+pub mod OneAnswer
+pub mod Decided

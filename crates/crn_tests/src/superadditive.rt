@@ -1,0 +1,140 @@
+//! Tests of crn_superadd, and of the direct networks of crn_compile.
+
+use crate::shared::{LEAST_OF_TWO_FORMS, printed};
+use crn_compile::{DirectError, compile_superadditive};
+use crn_form_text::print_form;
+use crn_formula::{Function, FunctionKind};
+use crn_function_text::read_function;
+use crn_linear::Point;
+use crn_pieces::check_pieces;
+use crn_superadd::superadd;
+use std::alloc::{AllocError, Global};
+use std::fmt::Write;
+use std::test::Fail;
+
+// The pieces of a text without constants.
+fn linear_pieces(alloc: Global, text: &str) -> Result<Function, Fail> {
+    let function = read_function(alloc, text.as_bytes())?;
+    if !matches!(function.kind(), FunctionKind::Pieces(_)) || function.is_affine() {
+        Err("it is not given by pieces without constants")?
+    }
+    Ok(function)
+}
+
+// A line for each used form.
+fn used_text(alloc: Global, text: &str) -> Result<String, Fail> {
+    let checked = check_pieces(alloc, linear_pieces(alloc, text)?.on_orthant())?;
+    let mut lines = String::new(alloc);
+    for form in superadd(alloc, &checked)? {
+        print_form(&mut lines, &form, checked.function().variables())?;
+        lines.push_str("\n")?;
+    }
+    Ok(lines)
+}
+
+fn write_point(out: &mut String, point: &Point) -> Result<(), AllocError> {
+    for i in 0..point.len() {
+        let number = point.entry(i);
+        write!(out, " {number}")?;
+    }
+    Ok(())
+}
+
+fn refusal_text(alloc: Global, error: &DirectError) -> Result<String, AllocError> {
+    match error {
+        DirectError::Compile(cause) => format!(in alloc; "{cause}"),
+        DirectError::NotSuperadditive {
+            first,
+            times,
+            second,
+        } => {
+            let mut text = format!(in alloc; "{times} times")?;
+            write_point(&mut text, first)?;
+            text.push_str(" and")?;
+            write_point(&mut text, second)?;
+            Ok(text)
+        }
+        DirectError::Negative { point } => {
+            let mut text = format!(in alloc; "negative at")?;
+            write_point(&mut text, point)?;
+            Ok(text)
+        }
+    }
+}
+
+// The text of the direct network, or why there is none.
+fn direct_text(alloc: Global, text: &str) -> Result<String, Fail> {
+    match compile_superadditive(alloc, linear_pieces(alloc, text)?) {
+        Ok(network) => printed(alloc, &network),
+        Err(error) => Ok(refusal_text(alloc, &error)?),
+    }
+}
+
+const LEAST_OF_TWO: &str = "function pieces
+variables 2
+piece 2x1 + x2
+when x2 - x1 >= 0
+piece 3x2
+when x1 - x2 >= 0
+";
+
+#[test]
+fn used_forms(rt: HostRuntime) -> Result<(), Fail> {
+    for (pieces, forms) in [
+        (LEAST_OF_TWO, "2x1 + x2\n3x2\n"),
+        (
+            "function pieces
+variables 2
+piece x1 + x2
+piece x2
+when -x1 >= 0
+",
+            "x1 + x2\n",
+        ),
+    ] {
+        assert!(rt; used_text(rt.alloc(), pieces)?.as_str() == forms, "{pieces}");
+    }
+    Ok(())
+}
+
+#[test]
+fn direct_networks(rt: HostRuntime) -> Result<(), Fail> {
+    for (pieces, wanted) in [
+        (LEAST_OF_TWO, LEAST_OF_TWO_FORMS),
+        (
+            "function pieces
+variables 2
+piece x1
+when x1 - x2 >= 0
+piece x2
+when x2 - x1 >= 0
+",
+            "2 times 2 1 and 1 2",
+        ),
+        (
+            "function pieces
+variables 2
+piece x1 - x2
+",
+            "negative at 0 1",
+        ),
+        (
+            "function pieces
+variables 1
+piece -x1
+",
+            "negative at 1",
+        ),
+        (
+            "function pieces
+variables 2
+piece x1
+when x2 - x1 >= 0
+",
+            "no piece holds at a point",
+        ),
+    ] {
+        assert!(rt; direct_text(rt.alloc(), pieces)?.as_str() == wanted, "{pieces}");
+    }
+    Ok(())
+}
