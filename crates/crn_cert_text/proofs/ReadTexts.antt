@@ -32,4 +32,4 @@ goes_where_allowed s line t is =
 
 pub proved_can_end : CanEnd proved_table
 proved_can_end =
-    followed_can_end function_table goes_on (λ f. proof_table) proved_with function_can_end goes_where_allowed (λ f p. ([], p, p, refl, refl)) (λ s f is. ([], no_lines, no_lines, refl, refl, tt))
+    followed_can_end function_table goes_on (λ f. proof_table) proved_with function_can_end goes_where_allowed (λ f lines p there. ([], p, p, refl, refl)) (λ s f is. ([], no_lines, no_lines, refl, refl, tt))
