@@ -41,7 +41,7 @@ use Rattle.crn_program.specs.declared.words.Command.TheVariants.{OfText}
 use Rattle.crn_program.specs.declared.words.TextCommand.TheVariants.{Compile, Complete, Run, CompleteGated}
 use Rattle.crn_program.specs.declared.status.Status.{Status}
 use Rattle.crn_program.specs.declared.status.Status.TheVariants as status
-use Rattle.crn_program.proofs.Correctness.{comes_in_text}
+use Rattle.crn_program.proofs.Done.{comes_in_text}
 use Rattle.crn_program.proofs.Endings.{found_by, of_segments}
 
 -- ---- the three statuses
