@@ -1,0 +1,5 @@
+pub mod Asking
+pub mod Rows
+pub mod Walking
+pub mod Comparing
+pub mod SomeAnswer
