@@ -7,19 +7,26 @@ use Rattle.crn_fraction.specs.Rational.{ℚ, whole, 0ℚ, ◌+ℚ◌, ◌-ℚ◌
 use Rattle.crn_fraction.proofs.Products.{whole_positive}
 use Rattle.crn_linear.specs.Forms.{at, wholes, entry_of}
 use Rattle.crn_formula.specs.Domains.{affine_domain, domain_for}
-use Rattle.crn_formula.specs.Formulas.{Formula, Lin, Add, Sub, Scale, Min, Max, IsOver, formula_value}
-use Rattle.crn_formula.specs.Functions.{Kind, ByFormula, ByPieces, ByLeast, kind_value, point_of, is_affine, columns, IsFitting}
+use Rattle.crn_formula.specs.Formulas.{Formula, node_count, Lin, Add, Sub, Scale, Min, Max, IsOver, formula_value}
+use Rattle.crn_formula.specs.Functions.{Kind, ByFormula, ByPieces, ByLeast, kind_value, point_of, is_affine, columns, IsFitting, IsGivenByPieces}
 use Rattle.crn_formula.specs.Pieces.{Domain, IsIn, IsDomain, columns_of}
 use Rattle.crn_formula.proofs.OwnDomains.{own_columns, own_domain_is}
 use Rattle.crn_formula.proofs.Points.{in_whole_space, in_affine}
 use Rattle.crn_formula.proofs.Units.{length-unit}
+use Rattle.crn_formula.specs.declared.formula.Formula as rust
+use Rattle.crn_formula.specs.Views.{Function, kind_of, plain_of}
+use Rattle.crn_pieces.specs.Views.{pieces_in, pieces_of_kind}
+use Rattle.crn_pieces.specs.Answers.{AreChecked}
+use Rattle.crn_maxmin.specs.Answers.{IsFormulaOf}
 use Rattle.crn_maxmin.proofs.Converted.{has_value, is_over}
 use Rattle.crn_maxmin.proofs.Prepared.{long_pieces}
 use Rattle.crn_same.specs.declared.SameError.{SameError}
 use Rattle.crn_same.specs.declared.SameError.TheVariants.{Differ}
+use Rattle.crn_same.specs.declared.functions.InFormula.{InFormula}
+use Rattle.crn_same.specs.declared.functions.InFormula.TheVariants.{Given, Made}
 use Rattle.crn_same.specs.Equal.{AreEqual, AreOver, DifferAt}
 use Rattle.crn_same.specs.Answers.{NoneDiffers, Ends, IsTruePoint}
-use Rattle.crn_same.specs.Functions.{AreSame, AreShownSame, IsDifference, IsTrueOf, IsRefused, IsFormulaFor, domain_by, common_domain, value_on, HasNoFormula}
+use Rattle.crn_same.specs.Functions.{AreSame, AreShownSame, IsDifference, IsTrueOf, IsRefused, IsFormulaFor, domain_by, common_domain, value_on, IsComparable, HasNoFormula, KeepsFormula, formula_of_kind, formula_in}
 use Rattle.crn_same.proofs.Walking.{are_equal, true_point}
 
 -- ---- a value does not see the numbers past its columns
@@ -194,32 +201,66 @@ module _ (k : ℕ) (f g : Kind) (fits_f : IsFitting k f) (fits_g : IsFitting k g
   is_difference p (inr (a, is_a, inr (b, is_b, ends))) =
       difference_by k f g fits_f fits_g a b is_a is_b p (true_point (common_domain k f g) a b (Differ p) ends)
 
+-- ---- the formula that the code keeps
+module _ (k : ℕ) where
+  given : (q : Kind) → IsComparable q → ¬ IsGivenByPieces q → (e : Formula) × (formula_of_kind q ≡ Some e) × IsFormulaFor k q e
+  given (ByFormula e) c n = (e, refl, refl)
+  given (ByPieces ps) c n = absurd (n tt)
+  given (ByLeast forms) c n = absurd c
+
+  pub keeps_given : (f : Function) → IsComparable (kind_of f.kind) → ¬ IsGivenByPieces (kind_of f.kind) → KeepsFormula k (kind_of f.kind) (Given f)
+  keeps_given f c n = let g = given (kind_of f.kind) c n in record { formula = g.0; is_kept = g.1; is_formula = g.2 }
+
+  made : (q : Kind) (d : Domain) (e : Formula) → IsGivenByPieces q → d ≡ domain_for k q → AreChecked d (pieces_of_kind q) → IsFormulaOf d (pieces_of_kind q) e → node_count e ≤ 2048 → IsFormulaFor k q e
+  made (ByFormula g) d e p is c i n = absurd p
+  made (ByPieces ps) d e p is c i n = record {
+    checked = subst (λ d. AreChecked d ps) is c;
+    is_formula = subst (λ d. IsFormulaOf d ps e) is i;
+    few_nodes = n;
+  }
+  made (ByLeast forms) d e p is c i n = absurd p
+
+  -- of the function g that was checked, which is f
+  pub keeps_made : (f g : Function) (e : rust.Formula) → g ≡ f → IsGivenByPieces (kind_of f.kind) → f.domain ≡ domain_for k (kind_of f.kind) → AreChecked g.domain (pieces_in g) → IsFormulaOf g.domain (pieces_in g) (plain_of e) → node_count (plain_of e) ≤ 2048
+      → KeepsFormula k (kind_of f.kind) (Made e)
+  keeps_made f g e same p is c i n = record {
+    formula = plain_of e;
+    is_kept = refl;
+    is_formula = made (kind_of f.kind) f.domain (plain_of e) p is
+        (subst (λ (u : Function). AreChecked u.domain (pieces_in u)) same c)
+        (subst (λ (u : Function). IsFormulaOf u.domain (pieces_in u) (plain_of e)) same i) n;
+  }
+
 -- ---- what a call tells, by the formulas that are kept
 some_formula : (x y : Formula) → Some x ≡ Some y → x ≡ y
 some_formula x y e = cc
 
-module _ (k : ℕ) (f g : Kind) (fits_f : IsFitting k f) (fits_g : IsFitting k g) (a b x y : Formula) (is_a : IsFormulaFor k f a) (is_b : IsFormulaFor k g b) (p : Some a ≡ Some x) (q : Some b ≡ Some y)
+module _ (k l : ℕ) (same : k ≡ l) (f g : Kind) (fits_f : IsFitting k f) (fits_g : IsFitting l g) (v w : InFormula) (kept_v : KeepsFormula k f v) (kept_w : KeepsFormula l g w) (x y : Formula) (p : formula_in v ≡ Some x) (q : formula_in w ≡ Some y)
     (d : Domain) (is_d : d ≡ common_domain k f g) where
-  -- what is said of the kept formulas is said of these
-  of_kept : (P : Domain → Formula → Formula → Type 0) → P d x y → P (common_domain k f g) a b
-  of_kept P h = subst (λ v. P (common_domain k f g) a v) (sym (some_formula b y q)) (subst (λ v. P (common_domain k f g) v y) (sym (some_formula a x p)) (subst (λ c. P c x y) is_d h))
+  is_x : IsFormulaFor k f x
+  is_x = subst (IsFormulaFor k f) (some_formula kept_v.formula x (sym kept_v.is_kept ∙ p)) kept_v.is_formula
+
+  is_y : IsFormulaFor k g y
+  is_y = subst (λ n. IsFormulaFor n g y) (sym same) (subst (IsFormulaFor l g) (some_formula kept_w.formula y (sym kept_w.is_kept ∙ q)) kept_w.is_formula)
+
+  fits : IsFitting k g
+  fits = subst (λ n. IsFitting n g) (sym same) fits_g
 
   pub over_kept : AreOver (columns_of d) x y
-  over_kept = subst (λ c. AreOver (columns_of c) x y) (sym is_d) (subst (λ v. AreOver (columns_of (common_domain k f g)) x v) (some_formula b y q)
-      (subst (λ v. AreOver (columns_of (common_domain k f g)) v b) (some_formula a x p) (both_over k f g fits_f fits_g a b is_a is_b)))
+  over_kept = subst (λ c. AreOver (columns_of c) x y) (sym is_d) (both_over k f g fits_f fits x y is_x is_y)
 
   pub same_kept : (r : Result (Unit {0}) SameError) → OnOk r (AreEqual d x y) → OnOk r (AreSame k f g)
-  same_kept (Ok u) h = same_by k f g fits_f fits_g a b is_a is_b (of_kept AreEqual h)
+  same_kept (Ok u) h = same_by k f g fits_f fits x y is_x is_y (subst (λ c. AreEqual c x y) is_d h)
   same_kept (Err e) h = tt
 
   pub shown_kept : (r : Result (Unit {0}) SameError) → OnOk r (NoneDiffers d x y) → OnOk r (AreShownSame k f g)
-  shown_kept (Ok u) h = record { first = a; second = b; is_first = is_a; is_second = is_b; none_differs = of_kept NoneDiffers h }
+  shown_kept (Ok u) h = record { first = x; second = y; is_first = is_x; is_second = is_y; none_differs = subst (λ c. NoneDiffers c x y) is_d h }
   shown_kept (Err e) h = tt
 
   pub true_kept : (r : Result (Unit {0}) SameError) → IfErr r (IsTruePoint d x y) → IfErr r (IsTrueOf k f g)
   true_kept (Ok u) h = tt
-  true_kept (Err e) h = true_by k f g fits_f fits_g a b is_a is_b e (of_kept (λ c v w. IsTruePoint c v w e) h)
+  true_kept (Err e) h = true_by k f g fits_f fits x y is_x is_y e (subst (λ c. IsTruePoint c x y e) is_d h)
 
   pub refused_kept : (r : Result (Unit {0}) SameError) → IfErr r (Ends d x y) → IfErr r (IsRefused k f g)
   refused_kept (Ok u) h = tt
-  refused_kept (Err e) h = inr (a, is_a, inr (b, is_b, of_kept (λ c v w. Ends c v w e) h))
+  refused_kept (Err e) h = inr (x, is_x, inr (y, is_y, subst (λ c. Ends c x y e) is_d h))

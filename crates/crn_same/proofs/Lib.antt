@@ -3,3 +3,4 @@ pub mod Rows
 pub mod Walking
 pub mod Comparing
 pub mod SomeAnswer
+pub mod OneAnswer

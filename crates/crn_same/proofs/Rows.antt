@@ -3,7 +3,7 @@ use Rattle.std.proofs.Common.{◌≡◌, ℕ, ◌+◌, ◌<◌, ◌≤◌, List,
 use Rattle.std.specs.Prelude.{All, OnOk, IfErr}
 use Rattle.std.specs.List.{list_any}
 use Rattle.std.proofs.lemmas.Option.{get_or_from_slice_get}
-use Rattle.std.proofs.lemmas.List.{map-append, length-map, get_or-map, take_all}
+use Rattle.std.proofs.lemmas.List.{append_assoc, map-append, length-map, get_or-map, take_all}
 use Rattle.std.proofs.lemmas.List.Elements.{Contains-get_or, All-push}
 use Rattle.indexmap.specs.IndexSet.{insert_key}
 use Rattle.crn_fraction.specs.Rational.{ℚ, whole, ◌*ℚ◌}
@@ -44,29 +44,29 @@ module _ (keys : List (List ℚ)) (form : List ℚ) (new : List (List ℚ)) (ins
   module _ (rows : List Row) (are : AreRows keys rows) where
     pub one_more : is_new ≡ true → Clears form → (more : List Row) → more ≡ rows ++ positive_row form ∷ [] → AreRows new more
     one_more n clears more m = record {
-      rows = m ∙ ap (λ rs. rs ++ positive_row form ∷ []) are.rows ∙ sym (map-append positive_row keys (form ∷ [])) ∙ sym (ap (map positive_row) (behind n));
+      are_rows = m ∙ ap (λ rs. rs ++ positive_row form ∷ []) are.are_rows ∙ sym (map-append positive_row keys (form ∷ [])) ∙ sym (ap (map positive_row) (behind n));
       clear = subst (All Clears) (sym (behind n)) (All-push Clears keys form are.clear clears);
     }
 
     pub stay : is_new ≡ false → AreRows new rows
-    stay n = record { rows = are.rows ∙ sym (ap (map positive_row) (unchanged n)); clear = subst (All Clears) (sym (unchanged n)) are.clear }
+    stay n = record { are_rows = are.are_rows ∙ sym (ap (map positive_row) (unchanged n)); clear = subst (All Clears) (sym (unchanged n)) are.clear }
 
     pub place_within : is_new ≡ false → (place : ℕ) → place < length new → place < length rows
-    place_within n place h = subst (λ k. place < k) (sym (ap length (stay n).rows ∙ length-map new positive_row)) h
+    place_within n place h = subst (λ k. place < k) (sym (ap length (stay n).are_rows ∙ length-map new positive_row)) h
 
     module _ (same : is_new ≡ false) (place : ℕ) (within : place < length new) (key : List ℚ) (stored : slice_get new place ≡ Some key) (is_key : eq_forms form key ≡ true) where
       key_is : get_or new place [] ≡ form
       key_is = get_or_from_slice_get new place key [] stored ∙ sym ((Decides-eq_forms form key).0 is_key)
 
       pub row_there : (d : Row) → get_or rows place d ≡ positive_row form
-      row_there d = ap (λ rs. get_or rs place d) (stay same).rows ∙ get_or-map positive_row new place [] d within ∙ ap positive_row key_is
+      row_there d = ap (λ rs. get_or rs place d) (stay same).are_rows ∙ get_or-map positive_row new place [] d within ∙ ap positive_row key_is
 
       pub clears_there : Clears form
       clears_there = subst Clears key_is (each Clears new (stay same).clear (get_or new place []) (Has-from_Contains new (get_or new place []) (Contains-get_or new place [] within)))
 
 -- ---- the forms of a set
 -- the row of a form has an entry for each column
-length-positive : (form : List ℚ) → length (cleared form) ≡ length form
+pub length-positive : (form : List ℚ) → length (cleared form) ≡ length form
 length-positive form =
     let m = (cleared_is form).multiple in
     sym (length-map (cleared form) whole) ∙ ap length m.same ∙ length-map form (λ x. m.factor *ℚ x)
@@ -87,6 +87,13 @@ module _ (forms : List (List ℚ)) (i : ℕ) (form : List ℚ) (within : i < len
   -- and each form before this one clears, so this one does
   pub clear_next : All Clears (take i forms) → Clears form → All Clears (take (i + 1) forms)
   clear_next before clears = subst (All Clears) (sym (next forms i form within is)) (All-push Clears (take i forms) form before clears)
+
+  -- and its row stands behind those of the forms before it
+  pub push_next : (rows : List Row) → (rows ++ map positive_row (take i forms)) ++ positive_row form ∷ [] ≡ rows ++ map positive_row (take (i + 1) forms)
+  push_next rows =
+      append_assoc rows (map positive_row (take i forms)) (positive_row form ∷ [])
+      ∙ ap (λ rs. rows ++ rs) (sym (map-append positive_row (take i forms) (form ∷ [])))
+      ∙ ap (λ fs. rows ++ map positive_row fs) (sym (next forms i form within is))
 
 pub clear_all : (forms : List (List ℚ)) (i : ℕ) → length forms ≤ i → All Clears (take i forms) → All Clears forms
 clear_all forms i h all = subst (All Clears) (take_all i forms h) all

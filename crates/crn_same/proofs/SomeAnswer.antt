@@ -75,8 +75,8 @@ module _ (domain : Domain) (is_domain : IsDomain domain) where
   asked_set : (S : List (List ℚ)) → All Clears S → Decision (asked domain S) → IsNowhere domain S ⊎ ForCause (SetStops domain S)
   asked_set S clear (has_point p e meets long) = inr (Differ p, (λ e. cc e), (clear, record { long = long; meets = meets }))
   asked_set S clear (has_none none) = inl (record { clears = clear; none = none })
-  asked_set S clear (has_limit (inl e)) = inr (TooBig (record { system = asked domain S; room = 0 }), (λ e. cc e), (clear, refl, e))
-  asked_set S clear (has_limit (inr e)) = inr (TooManyRows (record { system = asked domain S; room = 0 }), (λ e. cc e), (clear, refl, e))
+  asked_set S clear (has_limit (inl e)) = inr (TooBig (record { system = asked domain S; room = 0 }), (λ e. cc e), (clear, (refl, e)))
+  asked_set S clear (has_limit (inr e)) = inr (TooManyRows (record { system = asked domain S; room = 0 }), (λ e. cc e), (clear, (refl, e)))
 
   one_set : (S : List (List ℚ)) → All (λ f. length f ≡ columns_of domain) S → IsNowhere domain S ⊎ ForCause (SetStops domain S)
   one_set S long =

@@ -55,8 +55,8 @@ abbrev pub DifferenceStops : Domain → List Step → Sets → SameError → Typ
 DifferenceStops domain steps A error = StepsStop steps error ⊎ (NoneStops steps × SetsStop domain A error)
 
 -- no step is refused, and each set is nowhere
-pub record NoneAbove (domain : Domain) (steps : List Step) (A : Sets) : Type 0 where
-  pub steps : NoneStops steps
+pub record NoneAbove (domain : Domain) (made : List Step) (A : Sets) : Type 0 where
+  pub steps : NoneStops made
   pub sets : All (IsNowhere domain) A
 
 -- ---- both differences
@@ -85,7 +85,7 @@ refusal_of normal.Memory = Memory
 
 -- the rows that forms are above 0, each of which clears
 pub record AreRows (forms : List (List ℚ)) (rows : List Row) : Type 0 where
-  pub rows : rows ≡ map positive_row forms
+  pub are_rows : rows ≡ map positive_row forms
   pub clear : All Clears forms
 
 -- a form has no row

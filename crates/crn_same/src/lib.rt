@@ -9,6 +9,8 @@
 //! answer for each two, and one but for the point of a difference and for limits of solving.
 #![tactic(auto)]
 
+ghost use Rattle.std.specs.Prelude.{◌≡◌};
+
 use crn_farkas::System;
 use crn_fraction::TooBig;
 use crn_linear::Point;
