@@ -1,4 +1,7 @@
 //! The text of functions: its grammar, apart from how it is read, and the function that a text spells.
+//!
+//! Each answer of a reader is the right one for its table of lines (`specs/Grammar.antt`): the function, the malformed line, or the first line that passes a
+//! limit; the same of two functions one after the other (`specs/Two.antt`). A printed function reads back as itself.
 #![tactic(auto)]
 
 ghost use Rattle.std.specs.Prelude.{◌≡◌, ◌≤◌, List, drop, vec_len, IfOk};
