@@ -1,12 +1,11 @@
 -- A function by pieces without constants has a direct network, or there is a cause why it has none.
-use Rattle.std.proofs.Common.{◌≡◌, ◌⊎◌, inl, inr, ℕ, ◌+◌, ◌≤◌, false, cond, List, length, refl, sym, ap, ◌∙◌, subst}
+use Rattle.std.proofs.Common.{◌≡◌, ◌⊎◌, inl, inr, ℕ, ◌+◌, ◌≤◌, false, cond, List, length, refl, sym, subst}
 use Rattle.std.specs.Prelude.{◌≢◌, All}
 use Rattle.crn_net.specs.Network.{Network}
-use Rattle.crn_formula.specs.Pieces.{Piece, columns_of}
+use Rattle.crn_formula.specs.Pieces.{Piece}
 use Rattle.crn_formula.specs.Domains.{orthant}
 use Rattle.crn_formula.specs.Functions.{Kind, ByFormula, ByPieces, ByLeast, IsPieceOver, IsFitting, IsGivenByPieces, is_affine}
 use Rattle.crn_pieces.specs.Answers as pieces
-use Rattle.crn_pieces.specs.Views.{pieces_of_kind}
 use Rattle.crn_pieces.specs.declared.PiecesError.{PiecesError}
 use Rattle.crn_pieces.specs.declared.PiecesError.TheVariants as unchecked
 use Rattle.crn_pieces.proofs.Decided as checking
@@ -18,7 +17,6 @@ use Rattle.crn_superadd.specs.declared.SuperError.{SuperError}
 use Rattle.crn_superadd.specs.declared.SuperError.TheVariants as unused
 use Rattle.crn_superadd.proofs.Orthant.{columns_of_orthant, orthant_is_domain}
 use Rattle.crn_superadd.proofs.Decided as using
-use Rattle.crn_compile.specs.Refusals.{IsRefusedByPieces, of_pieces}
 use Rattle.crn_compile.specs.DirectNetworks.{IsDirectNetworkOfPieces, IsDirectNetworkOf}
 use Rattle.crn_compile.specs.DirectRefusals.{IsRefusedDirectByPieces, IsRefusedDirect}
 use Rattle.crn_compile.specs.declared.CompileError.{CompileError}

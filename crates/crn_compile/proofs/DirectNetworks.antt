@@ -1,16 +1,15 @@
 -- The direct networks of functions by pieces.
-use Rattle.std.proofs.Common.{◌≡◌, ℕ, ◌+◌, ◌<◌, ◌≤◌, ◌^◌, Bool, true, false, cond, List, [], ◌∷◌, ◌++◌, length, map, refl, sym, ap, ◌∙◌, subst, arith}
+use Rattle.std.proofs.Common.{◌≡◌, ℕ, ◌<◌, ◌≤◌, ◌^◌, false, cond, List, [], ◌∷◌, ◌++◌, length, map, refl, sym, ap, ◌∙◌, subst, arith}
 use Rattle.std.specs.Prelude.{pos, Option, All, IsSomeAnd}
-use Rattle.std.proofs.lemmas.Bool.{false≢true}
 use Rattle.std.proofs.lemmas.List.Elements.{All-nil, All-cons, All-head}
 use Rattle.crn_fraction.specs.Rational.{ℚ, whole, 0ℚ, ◌≤ℚ◌}
 use Rattle.crn_linear.specs.Fracs.{AreFracs, AreFormFracs}
-use Rattle.crn_net.specs.Network.{Network, IsFeedForward, AreAmounts, AreNotNegative, StablyComputes, encoded}
+use Rattle.crn_net.specs.Network.{Network, IsFeedForward, AreAmounts, AreNotNegative, StablyComputes}
 use Rattle.crn_net.specs.Limits.{IsValid}
 use Rattle.crn_net.specs.Reactions.{EachCountOn}
 use Rattle.crn_formula.specs.Numbers.{HasKindFracs, HasPieceFracs}
 use Rattle.crn_formula.specs.Pieces.{Piece, IsIn, pieces_value}
-use Rattle.crn_formula.specs.Functions.{Kind, ByFormula, ByPieces, ByLeast, IsGivenByPieces, is_affine, kind_value, point_of}
+use Rattle.crn_formula.specs.Functions.{Kind, ByFormula, ByPieces, ByLeast, IsGivenByPieces, is_affine}
 use Rattle.crn_formula.specs.Domains.{orthant}
 use Rattle.crn_formula.proofs.Points.{in_orthant}
 use Rattle.crn_direct.specs.Layout.{column_count, direct_layout}
@@ -26,7 +25,7 @@ use Rattle.crn_superadd.specs.Superadditive.{used, used_forms}
 use Rattle.crn_superadd.specs.Answers.{AreUsedForms}
 use Rattle.crn_superadd.proofs.Orthant.{columns_of_orthant}
 use Rattle.crn_compile.specs.Networks.{ComputesFunction}
-use Rattle.crn_compile.specs.DirectNetworks.{IsDirectNetworkOfPieces, IsDirectNetworkOf}
+use Rattle.crn_compile.specs.DirectNetworks.{IsDirectNetworkOf}
 use Rattle.crn_compile.proofs.NetworkLaws.{valid_of}
 use Rattle.crn_compile.proofs.PieceNetworks.{form_fracs}
 

@@ -1,6 +1,6 @@
 -- Two refusals of a direct network are the same but for points, unless one is a solving limit, and no other stands beside a direct network. Where the function is as it
 -- should be, nothing is told but limits.
-use Rattle.std.proofs.Common.{◌≡◌, ◌⊎◌, inl, inr, ⊎_elim, ℕ, ◌<◌, ◌≤◌, List, refl, sym, ap, ◌∙◌, subst, arith}
+use Rattle.std.proofs.Common.{◌≡◌, inl, inr, ⊎_elim, ℕ, ◌<◌, ◌≤◌, List, sym, ap, ◌∙◌, subst, arith}
 use Rattle.std.specs.Prelude.{◌≢◌, ℤ}
 use Rattle.std.proofs.lemmas.Bool.{cases_lt}
 use Rattle.crn_net.specs.Network.{Network}
@@ -9,16 +9,15 @@ use Rattle.crn_formula.specs.Pieces.{Piece, Covers, Agree, columns_of}
 use Rattle.crn_formula.specs.Domains.{unit, orthant}
 use Rattle.crn_formula.specs.Functions.{Kind}
 use Rattle.crn_pieces.specs.Views.{pieces_of_kind}
-use Rattle.crn_pieces.specs.Answers.{AreChecked}
 use Rattle.crn_pieces.proofs.OneRefusal.{disagreement_excludes, gap_excludes}
 use Rattle.crn_superadd.specs.Superadditive.{IsSuperadditive, IsNonnegative, IsNegativeAt, IsFirstNegative}
-use Rattle.crn_superadd.specs.Answers.{IsRefuted, IsNegative}
+use Rattle.crn_superadd.specs.Answers.{IsNegative}
 use Rattle.crn_superadd.proofs.Orthant.{columns_of_orthant, unit_in_orthant}
 use Rattle.crn_superadd.proofs.OneAnswer.{not_refuted, not_negative, negative_is_not_refuted, not_too_many}
 use Rattle.crn_compile.specs.Alike as compile
 use Rattle.crn_compile.specs.DirectNetworks.{IsDirectNetworkOfPieces, IsDirectNetworkOf}
 use Rattle.crn_compile.specs.DirectRefusals.{IsRefusedDirectByPieces, IsRefusedDirect, IsLimit}
-use Rattle.crn_compile.specs.DirectAlike.{IsSolvingLimit, IsFoundBySolving, AreAlike}
+use Rattle.crn_compile.specs.DirectAlike.{IsSolvingLimit, AreAlike}
 use Rattle.crn_compile.specs.declared.CompileError.{CompileError}
 use Rattle.crn_compile.specs.declared.CompileError.TheVariants.{TooManyForms, BigCondition, BigDifference, Disagree, NotCovered, TooBig, TooManyRows, TooManyCells, TooManyNodes, Memory}
 use Rattle.crn_compile.specs.declared.direct.DirectError.{DirectError}

@@ -2,7 +2,7 @@
 use Rattle.std.specs.Prelude.{◌≡◌, ◌⊎◌}
 use Rattle.crn_compile.specs.Alike as compile
 use Rattle.crn_compile.specs.declared.direct.DirectError.{DirectError}
-use Rattle.crn_compile.specs.declared.direct.DirectError.TheVariants.{Compile, NotSuperadditive, Negative}
+use Rattle.crn_compile.specs.declared.direct.DirectError.TheVariants.{Compile, NotSuperadditive}
 
 -- elimination of a system passes a limit
 abbrev pub IsSolvingLimit : DirectError → Type 0

@@ -34,7 +34,9 @@ pub enum DirectError {
     },
     /// The function is superadditive, and this is the first unit point at which it is negative.
     #[error("the function is negative at a unit point")]
-    Negative { point: Point },
+    Negative {
+        point: Point,
+    },
 }
 
 impl From<AllocError> for DirectError {

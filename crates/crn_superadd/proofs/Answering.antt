@@ -1,16 +1,16 @@
 -- What the code answers, over plain lists.
-use Rattle.std.proofs.Common.{◌≡◌, ℕ, suc, ◌<◌, ◌≤◌, ◌+◌, ◌*◌, ◌^◌, List, [], ◌∷◌, length, get_or, Bool, true, false, refl, sym, ap, ◌∙◌, arith, subst, inl, inr, ⊎_elim}
-use Rattle.std.specs.Prelude.{ℤ, pos, Some, None, All, Any}
+use Rattle.std.proofs.Common.{◌≡◌, ℕ, ◌<◌, ◌≤◌, List, [], ◌∷◌, length, get_or, Bool, true, false, refl, sym, ap, ◌∙◌, arith, subst, inl, inr, ⊎_elim}
+use Rattle.std.specs.Prelude.{ℤ, Some, None, All}
 use Rattle.std.specs.List.{find}
 use Rattle.std.proofs.lemmas.Bool.{cond_both}
-use Rattle.std.proofs.lemmas.List.{length-replicate, length-map}
-use Rattle.crn_fraction.specs.Rational.{ℚ, whole, 0ℚ, ◌<ℚ◌, ◌+ℚ◌}
+use Rattle.std.proofs.lemmas.List.{length-map}
+use Rattle.crn_fraction.specs.Rational.{ℚ, whole, ◌+ℚ◌}
 use Rattle.crn_fraction.proofs.Linear.{not_<ℚ}
-use Rattle.crn_linear.specs.Forms.{wholes, entry_of}
+use Rattle.crn_linear.specs.Forms.{wholes}
 use Rattle.crn_formula.specs.Pieces.{Piece, Domain, IsIn, IsDomain, Covers, Agree, columns_of}
 use Rattle.crn_formula.specs.Domains.{unit, orthant}
 use Rattle.crn_maxmin.specs.Marked.{Marked, AreLong, IsMarkedBy, AreAllCells, numbered_forms}
-use Rattle.crn_superadd.specs.Superadditive.{IsSuperadditive, FallsShort, IsLeast, IsNonnegative, NoneBelow, is_used, used_forms, multiple, IsLeastMultiple, least_times, IsFirstNegative}
+use Rattle.crn_superadd.specs.Superadditive.{IsSuperadditive, FallsShort, IsLeast, IsNonnegative, IsNegativeIn, NoneBelow, is_used, used_forms, multiple, IsLeastMultiple, least_times, IsFirstNegative}
 use Rattle.crn_maxmin.specs.Conversion.{forms_below}
 use Rattle.crn_superadd.specs.Answers.{lowest_used, cell_at, IsFirstBelow, IsRefuted, IsNegative, AreUsedForms}
 use Rattle.crn_maxmin.specs.declared.MarkedCell.{MarkedCell}
@@ -125,7 +125,7 @@ module _ (domain : Domain) (pieces : List Piece) (cells : List Marked) (is_domai
     long_n = subst (λ m. All (λ f. length f ≡ m) forms) columns_is used_long
 
     -- it is negative at the first unit point where a coefficient is
-    pub negative : (i : ℕ) → i < columns_of domain → Any (λ f. entry_of f i <ℚ 0ℚ) forms → ((j : ℕ) → j < i → Any (λ f. entry_of f j <ℚ 0ℚ) forms → ⊥)
+    pub negative : (i : ℕ) → i < columns_of domain → IsNegativeIn forms i → ((j : ℕ) → j < i → ¬ IsNegativeIn forms j)
         → (p : List ℤ) → p ≡ unit (columns_of domain) i → IsNegative domain pieces p
     negative i l a first p e =
         let at_n : IsFirstNegative n pieces i = record {
@@ -148,7 +148,7 @@ module _ (domain : Domain) (pieces : List Piece) (cells : List Marked) (is_domai
         some (g ∷ gs) f h = omega arith
 
     -- and else the used forms serve
-    pub used_serve : length (numbered_forms pieces) ≤ 12 → ((i : ℕ) → i < columns_of domain → Any (λ f. entry_of f i <ℚ 0ℚ) forms → ⊥) → (given : List (List ℚ)) → given ≡ forms → AreUsedForms domain pieces given
+    pub used_serve : length (numbered_forms pieces) ≤ 12 → ((i : ℕ) → i < columns_of domain → ¬ IsNegativeIn forms i) → (given : List (List ℚ)) → given ≡ forms → AreUsedForms domain pieces given
     used_serve small free given e =
         let long = length-used (numbered_forms pieces) cells in
         subst (AreUsedForms domain pieces) (sym e)

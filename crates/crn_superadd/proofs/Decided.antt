@@ -1,6 +1,6 @@
 -- Pieces that were checked on the orthant have used forms that serve, or there is a cause why they have none.
-use Rattle.std.proofs.Common.{◌≡◌, ◌⊎◌, inl, inr, ⊎_elim, ℕ, zero, suc, ◌<◌, ◌≤◌, List, [], ◌∷◌, length, get_or, refl, sym, ap, ◌∙◌, subst, arith}
-use Rattle.std.specs.Prelude.{◌≢◌, Option, Some, None, All, Any}
+use Rattle.std.proofs.Common.{◌≡◌, ◌⊎◌, inl, inr, ⊎_elim, ℕ, zero, suc, ◌<◌, ◌≤◌, List, [], ◌∷◌, length, refl, sym, ap, ◌∙◌, subst, arith}
+use Rattle.std.specs.Prelude.{◌≢◌, Option, Some, None}
 use Rattle.std.proofs.lemmas.Bool.{cases_lt}
 use Rattle.crn_fraction.specs.Rational.{ℚ, 0ℚ, ◌<ℚ◌, ◌≤ℚ◌}
 use Rattle.crn_fraction.proofs.Order.{≤ℚ_or_<ℚ}
@@ -17,7 +17,7 @@ use Rattle.crn_cells.proofs.Members.{Has, Has-Contains, Contains-Has}
 use Rattle.crn_maxmin.specs.Marked.{Marked, numbered_forms, AreAllCells}
 use Rattle.crn_maxmin.proofs.Prepared.{long_pieces}
 use Rattle.crn_maxmin.proofs.Decided as marking
-use Rattle.crn_superadd.specs.Superadditive.{NoneBelow, used_forms, least_times}
+use Rattle.crn_superadd.specs.Superadditive.{IsNegativeIn, NoneBelow, used_forms, least_times}
 use Rattle.crn_superadd.specs.Answers.{lowest_used, cell_at, IsFirstBelow, AreUsedForms, IsRefused}
 use Rattle.crn_superadd.specs.declared.SuperError.{SuperError}
 use Rattle.crn_superadd.specs.declared.SuperError.TheVariants.{TooBig, TooManyRows, TooManyCells, NotSuperadditive, Negative, Memory}
@@ -65,13 +65,10 @@ negative_or_none i (g ∷ forms) = go (≤ℚ_or_<ℚ 0ℚ (entry_of g i)) (nega
     go (inl p) (inl (f, h, n)) = inl (f, inr h, n)
     go (inl p) (inr rest) = inr (none p rest)
 
-abbrev IsNegativeIn : List (List ℚ) → ℕ → Type 0
-IsNegativeIn forms i = Any (λ f. entry_of f i <ℚ 0ℚ) forms
-
-column_decided : (forms : List (List ℚ)) (i : ℕ) → IsNegativeIn forms i ⊎ (IsNegativeIn forms i → ⊥)
+column_decided : (forms : List (List ℚ)) (i : ℕ) → IsNegativeIn forms i ⊎ (¬ IsNegativeIn forms i)
 column_decided forms i = go (negative_or_none i forms)
   where
-    go : ((f : List ℚ) × Has f forms × (entry_of f i <ℚ 0ℚ)) ⊎ ((f : List ℚ) → Has f forms → ¬ (entry_of f i <ℚ 0ℚ)) → IsNegativeIn forms i ⊎ (IsNegativeIn forms i → ⊥)
+    go : ((f : List ℚ) × Has f forms × (entry_of f i <ℚ 0ℚ)) ⊎ ((f : List ℚ) → Has f forms → ¬ (entry_of f i <ℚ 0ℚ)) → IsNegativeIn forms i ⊎ (¬ IsNegativeIn forms i)
     go (inl (f, h, n)) = let c = Contains-Has f forms h in inl (c.0, f, c.1, c.2, n)
     go (inr none) = inr (λ a. none a.1 (Has-Contains a.1 forms (a.0, a.2, a.3)) a.4)
 
@@ -128,15 +125,15 @@ module _ (n : ℕ) (P : List Piece) (checked : AreChecked (orthant n) P) where
     by_columns none =
         let forms = used_forms (numbered_forms P) ms in
         ⊎_elim
-        (λ (h : (i : ℕ) × (i < columns_of D) × IsNegativeIn forms i × ((j : ℕ) → j < i → IsNegativeIn forms j → ⊥)).
+        (λ (h : (i : ℕ) × (i < columns_of D) × IsNegativeIn forms i × ((j : ℕ) → j < i → ¬ IsNegativeIn forms j)).
         inr (
           Negative (unit (columns_of D) h.0),
           (λ e. cc e),
           negative D P ms checked.is_domain (long_pieces D P checked.long) checked.covers checked.agree all few n refl none h.0 h.1 h.2 h.3 (unit (columns_of D) h.0) refl,
         ))
-        (λ (h : (i : ℕ) → i < columns_of D → IsNegativeIn forms i → ⊥).
+        (λ (h : (i : ℕ) → i < columns_of D → ¬ IsNegativeIn forms i).
         inl (forms, used_serve D P ms checked.is_domain (long_pieces D P checked.long) checked.covers checked.agree all few n refl none checked.prepared.few h forms refl))
-        (first_or_all (IsNegativeIn forms) (λ i. IsNegativeIn forms i → ⊥) (column_decided forms) (columns_of D))
+        (first_or_all (IsNegativeIn forms) (λ i. ¬ IsNegativeIn forms i) (column_decided forms) (columns_of D))
 
     by_cells : HasUsedForms D P ⊎ IsRefusedForCause D P
     by_cells =

@@ -1,20 +1,18 @@
 -- A least of forms on the orthant is negative somewhere exactly where it is at a unit point, and there some form has a negative coefficient.
-use Rattle.std.proofs.Common.{◌≡◌, ◌↔◌, ℕ, suc, ◌<◌, List, [], ◌∷◌, length, get_or, replicate, refl, sym, ap₂, ◌∙◌, arith, ⊎_elim, subst}
-use Rattle.std.specs.Prelude.{pos, Some, All, Any}
-use Rattle.std.proofs.lemmas.List.{length-map}
-use Rattle.std.proofs.lemmas.List.Elements.{All-head, All-tail, All-set, All-replicate, All-map}
-use Rattle.crn_fraction.specs.Rational.{ℚ, whole, 0ℚ, ◌+ℚ◌, ◌*ℚ◌, ◌≤ℚ◌, ◌<ℚ◌}
+use Rattle.std.proofs.Common.{◌≡◌, ◌↔◌, ℕ, suc, ◌<◌, List, [], ◌∷◌, length, get_or, refl, sym, ap₂, ◌∙◌, arith, ⊎_elim, subst}
+use Rattle.std.specs.Prelude.{Some, All}
+use Rattle.std.proofs.lemmas.List.Elements.{All-head, All-tail}
+use Rattle.crn_fraction.specs.Rational.{ℚ, 0ℚ, ◌+ℚ◌, ◌*ℚ◌, ◌≤ℚ◌, ◌<ℚ◌}
 use Rattle.crn_fraction.proofs.Ring.{*ℚ_comm, +ℚ-zero}
 use Rattle.crn_fraction.proofs.Order.{≤ℚ_or_<ℚ, ≤ℚ_refl}
 use Rattle.crn_fraction.proofs.Linear.{not_<ℚ, ≤ℚ-<ℚ_trans, <ℚ_irrefl, add-≤ℚ-add}
-use Rattle.crn_fraction.proofs.Products.{*ℚ-nonneg, whole_nonneg}
+use Rattle.crn_fraction.proofs.Products.{*ℚ-nonneg}
 use Rattle.crn_linear.specs.Forms.{at, wholes, entry_of}
 use Rattle.crn_formula.specs.Pieces.{Piece, IsIn}
 use Rattle.crn_formula.specs.Functions.{least_value}
 use Rattle.crn_formula.specs.Domains.{unit, orthant}
-use Rattle.crn_formula.proofs.Units.{length-unit}
 use Rattle.crn_formula.proofs.Points.{value-unit, in_orthant}
-use Rattle.crn_superadd.specs.Superadditive.{IsLeast, IsNegativeAt, IsNonnegative}
+use Rattle.crn_superadd.specs.Superadditive.{IsLeast, IsNegativeIn, IsNegativeAt, IsNonnegative}
 use Rattle.crn_cells.proofs.Members.{Has, Has-Contains, Contains-Has, Has-All, All-Has}
 use Rattle.crn_cells.proofs.Numbers.{nonneg_rest}
 use Rattle.crn_linear.proofs.Unique.{value-at}
@@ -88,7 +86,7 @@ module _ (k : ℕ) (pieces : List Piece) (forms : List (List ℚ)) (is_least : I
   length_of f h = Has-All (λ g. length g ≡ k) f forms long h
 
   -- at a unit point: a coefficient
-  pub at_units : (i : ℕ) → i < k → IsNegativeAt pieces (wholes (unit k i)) ↔ Any (λ f. entry_of f i <ℚ 0ℚ) forms
+  pub at_units : (i : ℕ) → i < k → IsNegativeAt pieces (wholes (unit k i)) ↔ IsNegativeIn forms i
   at_units i h = (
     λ n.
         let f = negative_form (wholes (unit k i)) (unit_in_orthant k i) n in
@@ -124,7 +122,7 @@ module _ (k : ℕ) (pieces : List Piece) (forms : List (List ℚ)) (is_least : I
   )
 
 -- forms without a negative coefficient in any column
-pub no_negative : (k : ℕ) (forms : List (List ℚ)) → All (λ f. length f ≡ k) forms → ((i : ℕ) → i < k → Any (λ f. entry_of f i <ℚ 0ℚ) forms → ⊥) → All Nonneg forms
+pub no_negative : (k : ℕ) (forms : List (List ℚ)) → All (λ f. length f ≡ k) forms → ((i : ℕ) → i < k → ¬ IsNegativeIn forms i) → All Nonneg forms
 no_negative k forms long none =
     All-Has Nonneg forms
     (λ f h i d l.

@@ -1,10 +1,10 @@
 -- The answers exclude one another.
-use Rattle.std.proofs.Common.{◌≡◌, ℕ, ◌≤◌, List, length, map, arith, subst}
-use Rattle.std.specs.Prelude.{ℤ, pos}
-use Rattle.std.proofs.lemmas.List.{length-map, length-replicate}
+use Rattle.std.proofs.Common.{ℕ, ◌≤◌, List, length, map, arith, subst}
+use Rattle.std.specs.Prelude.{ℤ}
+use Rattle.std.proofs.lemmas.List.{length-map}
 use Rattle.crn_fraction.specs.Rational.{ℚ}
 use Rattle.crn_linear.specs.Forms.{wholes}
-use Rattle.crn_formula.specs.Pieces.{Piece, Domain, columns_of}
+use Rattle.crn_formula.specs.Pieces.{Piece, Domain}
 use Rattle.crn_formula.specs.Domains.{unit, orthant}
 use Rattle.crn_cells.specs.Answers.{AreTooManyCells}
 use Rattle.crn_cells.proofs.Sorting.{many_cells}

@@ -1,13 +1,13 @@
 -- The orthant: its columns, that it is a domain, and that the unit points are in it.
-use Rattle.std.proofs.Common.{◌≡◌, ℕ, zero, suc, ◌≤◌, ◌+◌, ◌-◌, List, [], ◌∷◌, ◌++◌, length, take, refl, sym, ap, ◌∙◌, arith, subst}
-use Rattle.std.specs.Prelude.{pos, false, replicate, All}
+use Rattle.std.proofs.Common.{◌≡◌, ℕ, zero, suc, ◌≤◌, ◌+◌, ◌-◌, List, [], ◌∷◌, ◌++◌, length, take, refl, ap, ◌∙◌, arith, subst}
+use Rattle.std.specs.Prelude.{pos, false, replicate}
 use Rattle.std.proofs.lemmas.List.{length-map, length-replicate, length-append, length_push, take-append-le}
 use Rattle.std.proofs.lemmas.List.Elements.{All-set, All-replicate, All-map}
 use Rattle.crn_fraction.specs.Rational.{whole, 0ℚ, ◌≤ℚ◌}
 use Rattle.crn_fraction.proofs.Products.{whole_nonneg}
 use Rattle.crn_linear.specs.Forms.{wholes}
 use Rattle.crn_linear.specs.Rows.{Row}
-use Rattle.crn_formula.specs.Pieces.{Domain, IsIn, IsDomain, columns_of}
+use Rattle.crn_formula.specs.Pieces.{IsIn, IsDomain, columns_of}
 use Rattle.crn_formula.specs.Domains.{unit, orthant_rows, orthant}
 use Rattle.crn_formula.proofs.Units.{length-unit, kept_orthant}
 use Rattle.crn_formula.proofs.Points.{in_orthant}

@@ -25,7 +25,11 @@ lowest_used cells cell = find (is_used cells) (forms_below cell)
 abbrev pub cell_at : List Marked → ℕ → Marked
 cell_at cells i = slice_index_or cells i (record { order = []; form = 0 })
 
--- `high` is the place of the first cell in which a used form stands below that of the cell, and `low` that of the first cell that has the lowest such form
+-- there is none in any cell
+abbrev pub HasNoneBelow : List Marked → Type 0
+HasNoneBelow cells = (i : ℕ) → i < length cells → lowest_used cells (cell_at cells i) ≡ None
+
+-- high is the place of the first cell in which there is one, and low that of the first cell that has this form
 pub record IsFirstBelow (cells : List Marked) (low high : ℕ) : Type 0 where
   pub low_within : low < length cells
   pub high_within : high < length cells
@@ -33,8 +37,10 @@ pub record IsFirstBelow (cells : List Marked) (low high : ℕ) : Type 0 where
   pub none_before : (i : ℕ) → i < high → lowest_used cells (cell_at cells i) ≡ None
   pub first_with : (i : ℕ) → i < low → (cell_at cells i).form ≢ (cell_at cells low).form
 
--- two points and a multiple show that the function is not superadditive
-pub record IsRefuted (domain : Domain) (pieces : List Piece) (first : List ℤ) (times : ℕ) (second : List ℤ) : Type 0 where
+-- Two points and a multiple of the first show that the function is not superadditive: those of the cells at low and high, and the least multiple that, with the second
+-- point, meets the order of the cell at low.
+pub record IsRefuted (domain : Domain) (pieces : List Piece) (first : List ℤ) (times : ℕ) (second : List ℤ)
+    : Type 0 where
   pub cells : List Marked
   pub all : AreAllCells domain pieces cells
   pub few_cells : length cells ≤ 4096
@@ -47,7 +53,7 @@ pub record IsRefuted (domain : Domain) (pieces : List Piece) (first : List ℤ) 
   pub short : FallsShort pieces (multiple times (wholes first)) (wholes second)
   pub refuted : ¬ IsSuperadditive domain pieces
 
--- a unit point shows that a superadditive function is negative there
+-- the function is superadditive, and the point is the first unit point at which it is negative
 pub record IsNegative (domain : Domain) (pieces : List Piece) (point : List ℤ) : Type 0 where
   pub cells : List Marked
   pub all : AreAllCells domain pieces cells
@@ -57,7 +63,7 @@ pub record IsNegative (domain : Domain) (pieces : List Piece) (point : List ℤ)
   pub first : IsFirstNegative (columns_of domain) pieces index
   pub is : point ≡ unit (columns_of domain) index
 
--- the used forms of a superadditive function that is nowhere negative: it is the least of them, and they are few and without a negative coefficient
+-- They are the used forms of a superadditive function that is nowhere negative: it is the least of them, and they are few and without a negative coefficient.
 pub record AreUsedForms (domain : Domain) (pieces : List Piece) (forms : List (List ℚ)) : Type 0 where
   pub superadditive : IsSuperadditive domain pieces
   pub cells : List Marked
@@ -76,10 +82,12 @@ refusal_of (cells.TooManyRows kept) = TooManyRows kept
 refusal_of (cells.TooManyCells count) = TooManyCells count
 refusal_of cells.Memory = Memory
 
--- why there are none: elimination passes a limit on the order system that is kept, there are 4,097 cells, or the function is not as it should be
+-- why they do not come: elimination passes a limit on the order system that is kept, there are 4,097 cells, or the function is not superadditive, or is negative
 abbrev pub IsRefused : Domain → List Piece → SuperError → Type 0
-IsRefused domain pieces (TooBig kept) = IsAskedOrder domain (numbered_forms pieces) kept.system × (elimination kept.system ≡ Err passes)
-IsRefused domain pieces (TooManyRows kept) = IsAskedOrder domain (numbered_forms pieces) kept.system × (elimination kept.system ≡ Err too_many)
+IsRefused domain pieces (TooBig kept) =
+    IsAskedOrder domain (numbered_forms pieces) kept.system × (elimination kept.system ≡ Err passes)
+IsRefused domain pieces (TooManyRows kept) =
+    IsAskedOrder domain (numbered_forms pieces) kept.system × (elimination kept.system ≡ Err too_many)
 IsRefused domain pieces (TooManyCells count) = (count ≡ 4097) × AreTooManyCells domain (numbered_forms pieces)
 IsRefused domain pieces (NotSuperadditive first times second) = IsRefuted domain pieces first times second
 IsRefused domain pieces (Negative point) = IsNegative domain pieces point

@@ -1,8 +1,8 @@
 -- Superadditive functions, the forms that a function uses, and what refutes that it is superadditive.
-use Rattle.std.specs.Prelude.{◌≡◌, ℕ, zero, suc, ◌+◌, ◌/◌, ◌<◌, ◌≤◌, ◌==◌, max, ◌-◌, Bool, false, cond, ℤ, pos, int_lt, unsigned_abs, slice_index_or, List, map, length, Some, All}
+use Rattle.std.specs.Prelude.{◌≡◌, ℕ, zero, suc, ◌+◌, ◌/◌, ◌<◌, ◌≤◌, ◌==◌, max, ◌-◌, Bool, false, cond, ℤ, pos, int_lt, unsigned_abs, slice_index_or, List, map, length, Some, All, Any}
 use Rattle.std.specs.List.{filter, list_any}
 use Rattle.crn_fraction.specs.Rational.{ℚ, whole, 0ℚ, ◌+ℚ◌, ◌*ℚ◌, ◌≤ℚ◌, ◌<ℚ◌}
-use Rattle.crn_linear.specs.Forms.{wholes, minus}
+use Rattle.crn_linear.specs.Forms.{wholes, minus, entry_of, plus}
 use Rattle.crn_linear.specs.Rows.{dot}
 use Rattle.crn_linear.specs.Cleared.{cleared}
 use Rattle.crn_formula.specs.Pieces.{Piece, Domain, IsIn, pieces_value}
@@ -10,7 +10,6 @@ use Rattle.crn_formula.specs.Functions.{least_value}
 use Rattle.crn_formula.specs.Domains.{unit}
 use Rattle.crn_cells.specs.Cells.{numbered, Ascend}
 use Rattle.crn_maxmin.specs.Marked.{Marked}
-use Rattle.crn_linear.specs.Forms.{plus}
 use Rattle.crn_maxmin.specs.Conversion.{numbers, forms_below}
 
 -- a whole multiple of a point
@@ -20,12 +19,14 @@ multiple n x = map (λ t. whole (pos n) *ℚ t) x
 -- the value at a sum of two points of the domain is at least the sum of the two values
 pub record IsSuperadditive (domain : Domain) (pieces : List Piece) : Type 0 where
   pub above : (a b : List ℚ) → IsIn domain a → IsIn domain b → (u v w : ℚ)
-      → pieces_value pieces a ≡ Some u → pieces_value pieces b ≡ Some v → pieces_value pieces (plus a b) ≡ Some w → u +ℚ v ≤ℚ w
+      → pieces_value pieces a ≡ Some u → pieces_value pieces b ≡ Some v → pieces_value pieces (plus a b) ≡ Some w
+      → u +ℚ v ≤ℚ w
 
 -- the same of points of whole numbers alone
 pub record IsWholeSuperadditive (domain : Domain) (pieces : List Piece) : Type 0 where
   pub above : (p q : List ℤ) → IsIn domain (wholes p) → IsIn domain (wholes q) → (u v w : ℚ)
-      → pieces_value pieces (wholes p) ≡ Some u → pieces_value pieces (wholes q) ≡ Some v → pieces_value pieces (plus (wholes p) (wholes q)) ≡ Some w → u +ℚ v ≤ℚ w
+      → pieces_value pieces (wholes p) ≡ Some u → pieces_value pieces (wholes q) ≡ Some v
+      → pieces_value pieces (plus (wholes p) (wholes q)) ≡ Some w → u +ℚ v ≤ℚ w
 
 -- the value at the sum of two points is less than the sum of the two values
 pub record FallsShort (pieces : List Piece) (a b : List ℚ) : Type 0 where
@@ -69,6 +70,10 @@ used cells m = filter (is_used cells) (numbers m)
 abbrev pub used_forms : List (List ℚ) → List Marked → List (List ℚ)
 used_forms forms cells = map (numbered forms) (used cells (length forms))
 
+-- a form has a negative coefficient in the column
+abbrev pub IsNegativeIn : List (List ℚ) → ℕ → Type 0
+IsNegativeIn forms i = Any (λ f. entry_of f i <ℚ 0ℚ) forms
+
 -- ---- used forms that stand below the form of a cell
 -- in no cell does a used form stand below the form of the cell
 abbrev pub NoneBelow : List Marked → Type 0
@@ -99,7 +104,8 @@ times_at forms order first second n =
 -- for the first n steps of an order
 abbrev pub times_upto : List (List ℚ) → List ℕ → (first second : List ℤ) → ℕ → ℕ
 times_upto forms order first second zero = 1
-times_upto forms order first second (suc n) = max (times_upto forms order first second n) (times_at forms order first second n)
+times_upto forms order first second (suc n) =
+    max (times_upto forms order first second n) (times_at forms order first second n)
 
 -- for all of them
 abbrev pub least_times : List (List ℚ) → List ℕ → (first second : List ℤ) → ℕ

@@ -1,9 +1,9 @@
 //! What holds of superadditive functions. Each function here does nothing: its contract is a theorem about the definitions of
 //! `specs/`, proved with the crate.
 
-ghost use Rattle.std.specs.Prelude.{◌≡◌, ◌≢◌, ◌⊎◌, ◌↔◌, ◌<◌, ◌≤◌, ◌*◌, ◌+◌, ◌^◌, ℕ, ℤ, List, length, Contains, All, Any};
-ghost use Rattle.crn_fraction.specs.Rational.{ℚ, 0ℚ, ◌≤ℚ◌, ◌<ℚ◌};
-ghost use Rattle.crn_linear.specs.Forms.{wholes, entry_of, plus};
+ghost use Rattle.std.specs.Prelude.{◌≡◌, ◌≢◌, ◌⊎◌, ◌↔◌, ◌<◌, ◌≤◌, ◌*◌, ◌+◌, ◌^◌, ℕ, ℤ, List, length, Contains, All};
+ghost use Rattle.crn_fraction.specs.Rational.{ℚ, 0ℚ, ◌≤ℚ◌};
+ghost use Rattle.crn_linear.specs.Forms.{wholes, plus};
 ghost use Rattle.crn_linear.specs.Rows.{AreSmall};
 ghost use Rattle.crn_formula.specs.Pieces.{Piece, Domain, IsIn, IsDomain, Covers, Agree};
 ghost use Rattle.crn_formula.specs.Domains.{unit, orthant};
@@ -13,7 +13,7 @@ ghost use Rattle.crn_cells.specs.Systems.{AreClose};
 ghost use Rattle.crn_cells.specs.Answers.{AreTooManyCells};
 ghost use Rattle.crn_maxmin.specs.Marked.{Marked, AreLong, IsMarkedBy, AreAllCells, numbered_forms};
 ghost use Rattle.crn_maxmin.specs.Conversion.{forms_below};
-ghost use Rattle.crn_superadd.specs.Superadditive.{multiple, IsSuperadditive, IsWholeSuperadditive, FallsShort, IsNegativeAt, IsNonnegative, IsLeast, NoneBelow, IsLeastMultiple, used_forms, least_times};
+ghost use Rattle.crn_superadd.specs.Superadditive.{multiple, IsSuperadditive, IsWholeSuperadditive, FallsShort, IsNegativeAt, IsNonnegative, IsLeast, IsNegativeIn, NoneBelow, IsLeastMultiple, used_forms, least_times};
 ghost use Rattle.crn_superadd.specs.Answers.{IsRefuted, IsNegative, AreUsedForms, IsRefused};
 ghost use Rattle.crn_superadd.specs.declared.SuperError.{SuperError};
 ghost use Rattle.crn_superadd.specs.declared.SuperError.TheVariants.{Memory};
@@ -68,7 +68,7 @@ pub fn least_multiples()
 pub fn negative_at_unit_points()
     ensures unit { (k : ℕ) (pieces : List Piece) (forms : List (List ℚ))
         → IsLeast (orthant k) pieces forms → All (λ f. length f ≡ k) forms → (i : ℕ) → i < k
-        → IsNegativeAt pieces (wholes (unit k i)) ↔ Any (λ f. entry_of f i <ℚ 0ℚ) forms }
+        → IsNegativeAt pieces (wholes (unit k i)) ↔ IsNegativeIn forms i }
     ensures somewhere { (k : ℕ) (pieces : List Piece) (forms : List (List ℚ))
         → IsLeast (orthant k) pieces forms → All (λ f. length f ≡ k) forms
         → (x : List ℚ) → IsIn (orthant k) x → IsNegativeAt pieces x

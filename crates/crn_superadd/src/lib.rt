@@ -1,14 +1,20 @@
-//! Superadditive functions.
+//! Superadditive functions by pieces: the least of the forms that they use.
+//!
+//! A function is superadditive where its value at a sum of two points is at least the sum of the two values. A function by pieces that cover their domain and agree on it
+//! is superadditive exactly where it is the least of its used forms, those that it is in some cell, and exactly where in no cell a used form stands below the form of the
+//! cell (`laws`). `superadd` answers the used forms where the domain is the orthant and none of them has a negative coefficient. Else it answers two points that show that
+//! the function is not superadditive, or the first unit point at which it is negative, or why its cells are not known (`specs/Answers.antt`). The answers exclude one
+//! another, and one of them there always is.
 #![tactic(auto)]
 
-ghost use Rattle.std.specs.Prelude.{◌≡◌, ◌<◌, ◌≤◌, ℕ, List, Some, None, length, MatchOption, IfOk, IfErr, All};
+ghost use Rattle.std.specs.Prelude.{◌≡◌, ◌≤◌, length, MatchOption, IfOk, IfErr, All};
 ghost use Rattle.crn_formula.specs.Pieces.{columns_of};
 ghost use Rattle.crn_formula.specs.Domains.{orthant};
 ghost use Rattle.crn_pieces.specs.Views.{pieces_in};
 ghost use Rattle.crn_maxmin.specs.Marked.{AreAllCells, IsMarkedBy};
 ghost use Rattle.crn_maxmin.specs.Views.{marked_of};
 ghost use Rattle.crn_superadd.specs.Views.{cells_of};
-ghost use Rattle.crn_superadd.specs.Answers.{lowest_used, cell_at, IsFirstBelow, AreUsedForms, IsRefused, HasSmallMultiple};
+ghost use Rattle.crn_superadd.specs.Answers.{HasNoneBelow, IsFirstBelow, AreUsedForms, IsRefused, HasSmallMultiple};
 
 pub mod laws;
 mod search;
@@ -24,7 +30,7 @@ use std::alloc::{AllocError, Global};
 use thiserror::Error;
 use times::least_times;
 
-/// Why a function has no least of forms without negative coefficients.
+/// Why a function is not the least of used forms without negative coefficients, or is not known to be.
 #[derive(Debug, Drop, Error)]
 pub enum SuperError {
     /// A number of the elimination of this system passed 2^59 in size.
@@ -45,17 +51,16 @@ pub enum SuperError {
     /// The value at the sum of `times` times the first point and the second is less than the sum of the values at these two.
     #[error("the function is not superadditive")]
     NotSuperadditive {
-        /// A point.
+        /// A point of the first cell that has the used form.
         first: Point,
-        /// How often it is taken.
+        /// The least multiple of it that serves.
         times: u128,
-        /// Another point.
+        /// A point of the first cell in which a used form stands below that of the cell.
         second: Point,
     },
-    /// The value at the point is negative.
-    #[error("the function is negative")]
+    /// The function is superadditive, and this is the first unit point at which it is negative.
+    #[error("the function is negative at a unit point")]
     Negative {
-        /// A unit point.
         point: Point,
     },
     /// Memory ran out.
@@ -88,10 +93,10 @@ impl From<CellsError> for SuperError {
     }
 }
 
-// The places of the first cell that has the form, and of the first cell in which a used form stands below that of the cell, the lowest of these being that form.
+// The place of the first cell in which a used form stands below that of the cell, and before it that of the first cell that has the lowest of these used forms.
 fn first_below(cells: &[MarkedCell]) -> Option<(usize, usize)>
     ensures { MatchOption result
-        ((i : ℕ) → i < length (cells_of cells.now) → lowest_used (cells_of cells.now) (cell_at (cells_of cells.now) i) ≡ None)
+        (HasNoneBelow (cells_of cells.now))
         (λ places. IsFirstBelow (cells_of cells.now) places.0 places.1) }
 {
     for high in 0..cells.len() {
@@ -102,7 +107,7 @@ fn first_below(cells: &[MarkedCell]) -> Option<(usize, usize)>
     None
 }
 
-// The two points of the cells, and the least multiple of the first that serves.
+// A point of each of the two cells, and the least multiple of the first that serves.
 fn refutation(checked: &Checked, cells: &[MarkedCell], low: usize, high: usize) -> SuperError
     requires few { columns_of checked.now.domain ≤ 8 }
     requires cells { AreAllCells checked.now.domain (pieces_in checked.now) (cells_of cells.now) }
@@ -127,7 +132,8 @@ fn refutation(checked: &Checked, cells: &[MarkedCell], low: usize, high: usize) 
     }
 }
 
-/// The used forms of a function by pieces on the orthant, where it is superadditive and nowhere negative: it is the least of them.
+/// The used forms of a function by pieces on the orthant, where it is superadditive and nowhere negative; it is the least of them. It is looked at for sums first, and
+/// then at the unit points.
 pub fn superadd(alloc: Global, checked: &Checked) -> Result<Vec<Form>, SuperError>
     requires { checked.now.domain ≡ orthant checked.now.variables }
     ensures forms { IfOk result (λ forms. AreUsedForms checked.now.domain (pieces_in checked.now) forms.items) }
@@ -146,4 +152,3 @@ pub fn superadd(alloc: Global, checked: &Checked) -> Result<Vec<Form>, SuperErro
     }
     Ok(used)
 }
-

@@ -1,5 +1,7 @@
 //! Tests of crn_superadd, and of the direct networks of crn_compile.
 
+ghost use Rattle.std.specs.Prelude.{◌<◌, length};
+
 use crate::shared::{LEAST_OF_TWO_FORMS, printed};
 use crn_compile::{DirectError, compile_superadditive};
 use crn_form_text::print_form;
@@ -32,31 +34,17 @@ fn used_text(alloc: Global, text: &str) -> Result<String, Fail> {
     Ok(lines)
 }
 
-fn write_point(out: &mut String, point: &Point) -> Result<(), AllocError> {
-    for i in 0..point.len() {
-        let number = point.entry(i);
-        write!(out, " {number}")?;
-    }
-    Ok(())
-}
-
+// What is told of a refusal, without the points that are free.
 fn refusal_text(alloc: Global, error: &DirectError) -> Result<String, AllocError> {
     match error {
         DirectError::Compile(cause) => format!(in alloc; "{cause}"),
-        DirectError::NotSuperadditive {
-            first,
-            times,
-            second,
-        } => {
-            let mut text = format!(in alloc; "{times} times")?;
-            write_point(&mut text, first)?;
-            text.push_str(" and")?;
-            write_point(&mut text, second)?;
-            Ok(text)
-        }
+        DirectError::NotSuperadditive { .. } => format!(in alloc; "{error}"),
         DirectError::Negative { point } => {
             let mut text = format!(in alloc; "negative at")?;
-            write_point(&mut text, point)?;
+            for i in 0..point.len() {
+                let number = point.entry(i);
+                write!(text, " {number}")?;
+            }
             Ok(text)
         }
     }
@@ -78,6 +66,14 @@ piece 3x2
 when x1 - x2 >= 0
 ";
 
+const GREATEST_OF_TWO: &str = "function pieces
+variables 2
+piece x1
+when x1 - x2 >= 0
+piece x2
+when x2 - x1 >= 0
+";
+
 #[test]
 fn used_forms(rt: HostRuntime) -> Result<(), Fail> {
     for (pieces, forms) in [
@@ -92,7 +88,10 @@ when -x1 >= 0
             "x1 + x2\n",
         ),
     ] {
-        assert!(rt; used_text(rt.alloc(), pieces)?.as_str() == forms, "{pieces}");
+        assert!(rt;
+            used_text(rt.alloc(), pieces)?.as_str() == forms,
+            "{pieces}"
+        );
     }
     Ok(())
 }
@@ -101,16 +100,7 @@ when -x1 >= 0
 fn direct_networks(rt: HostRuntime) -> Result<(), Fail> {
     for (pieces, wanted) in [
         (LEAST_OF_TWO, LEAST_OF_TWO_FORMS),
-        (
-            "function pieces
-variables 2
-piece x1
-when x1 - x2 >= 0
-piece x2
-when x2 - x1 >= 0
-",
-            "2 times 2 1 and 1 2",
-        ),
+        (GREATEST_OF_TWO, "the function is not superadditive"),
         (
             "function pieces
 variables 2
@@ -134,7 +124,51 @@ when x2 - x1 >= 0
             "no piece holds at a point",
         ),
     ] {
-        assert!(rt; direct_text(rt.alloc(), pieces)?.as_str() == wanted, "{pieces}");
+        assert!(rt;
+            direct_text(rt.alloc(), pieces)?.as_str() == wanted,
+            "{pieces}"
+        );
+    }
+    Ok(())
+}
+
+// One number of so many times the first point and the second together.
+fn number_of_sum(first: &Point, times: i64, second: &Point, index: usize) -> Option<i64>
+    requires first { index < length first.now }
+    requires second { index < length second.now }
+{
+    first
+        .entry(index)
+        .checked_mul(times)?
+        .checked_add(second.entry(index))
+}
+
+// Whether the greatest of two variables is less at this sum than at its two parts together.
+fn falls_short(first: &Point, times: u128, second: &Point) -> Option<bool> {
+    let times = i64::try_from(times).ok()?;
+    if first.len() != 2 || second.len() != 2 {
+        return None;
+    }
+    let at_first = first.entry(0).max(first.entry(1)).checked_mul(times)?;
+    let at_second = second.entry(0).max(second.entry(1));
+    let at_sum = number_of_sum(first, times, second, 0)?.max(number_of_sum(
+        first, times, second, 1,
+    )?);
+    Some(at_sum < at_first.checked_add(at_second)?)
+}
+
+#[test]
+fn points_that_refute(rt: HostRuntime) -> Result<(), Fail> {
+    let function = linear_pieces(rt.alloc(), GREATEST_OF_TWO)?;
+    match compile_superadditive(rt.alloc(), function) {
+        Err(
+            DirectError::NotSuperadditive {
+                first,
+                times,
+                second,
+            },
+        ) => assert!(rt; falls_short(&first, times, &second) == Some(true)),
+        _ => Err("it was not refused so")?,
     }
     Ok(())
 }
