@@ -114,7 +114,7 @@ pub fn verify(alloc: Global, function: &Function, proof: &Proof) -> Result<(), V
     }
 }
 
-// Why clearing is refused.
+// Why clearing is refused: for a row, or for want of memory.
 fn unclear(error: PiecesError) -> VerifyError
     ensures { result ≡ unclear_of error }
 {
@@ -149,6 +149,7 @@ fn verify_pieces(
         Err(error) => return Err(unclear(error)),
     };
     let pairs = pairs(alloc, pieces.len())?;
+    // All differences have to clear before a line is looked at. Their rows are made again pair by pair.
     match clear_differences(alloc, pieces, domain.inside().len(), pairs.as_slice()) {
         Ok(_) => {}
         Err(error) => return Err(unclear(error)),
