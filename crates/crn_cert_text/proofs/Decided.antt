@@ -21,7 +21,7 @@ use Rattle.crn_cert_text.specs.Answers.{IsAccepted, IsRejected}
 use Rattle.crn_cert_text.specs.ProvedText.{PlainProved, proved_answer}
 use Rattle.crn_cert_text.specs.TextAnswers.{pieces_of_text, domain_of_text, IsTextOf, IsPiecesText, IsAcceptedText, IsRefusedText, unproved_of}
 use Rattle.crn_cert_text.proofs.WalkLaws.{whole_exactly, proof_exactly, IsWholeFrom}
-use Rattle.crn_cert_text.proofs.Tests.{first_or_all, clears_told, conditions_told, difference_told, Unfit, whole_or_unfit, one_stop}
+use Rattle.crn_cert_text.proofs.LineTests.{first_or_all, clears_told, conditions_told, difference_told, Unfit, whole_or_unfit, one_stop}
 use Rattle.crn_cert_text.proofs.TextVerdicts.{never, text_found, one_text, text_fitting, some_pieces, unproved_is}
 
 -- ---- lines

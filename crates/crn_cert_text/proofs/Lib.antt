@@ -11,7 +11,7 @@ pub mod Solved
 pub mod SmallCertificates
 pub mod SomeProof
 pub mod OneVerdict
-pub mod Tests
+pub mod LineTests
 pub mod ReadLines
 pub mod ReadSteps
 pub mod ReadTurns

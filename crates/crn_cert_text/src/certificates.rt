@@ -27,7 +27,7 @@ fn are_small(multipliers: &[i64]) -> bool
     true
 }
 
-/// Whether these are small multipliers, one for each row of the domain and of these, that are a certificate of the system.
+/// Whether the multipliers are small and a certificate of the system of the domain's rows and these.
 pub fn proves(
     alloc: Global,
     domain: &Domain,

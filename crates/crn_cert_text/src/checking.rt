@@ -39,7 +39,8 @@ pub enum CheckError {
     Memory,
 }
 
-/// Looks whether a text is that of a function by pieces and a proof that they cover its domain and agree on it, and of how many lines.
+/// Looks whether a text is that of a function by pieces and a proof that they cover its domain and agree on it, and of
+/// how many lines the proof is.
 pub fn check_text(alloc: Global, bytes: &[u8]) -> Result<usize, CheckError>
     ensures verdict { MatchResult result (IsAcceptedText bytes.now) (IsRefusedText bytes.now) }
     // The pieces of a text that is accepted cover the domain and agree on it.

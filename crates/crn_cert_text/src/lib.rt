@@ -1,4 +1,8 @@
-//! Proofs that pieces cover their domain and agree on it, which can be checked apart.
+//! Proofs that pieces cover their domain and agree on it: made of pieces that were checked, printed, read, and verified
+//! line by line without solving anything.
+//!
+//! What is verified is covered and agreeing, a refusal names the first line that does not fit, and what is made and
+//! printed is accepted by whoever reads it, but for want of memory. Each text has one verdict.
 #![tactic(auto)]
 
 ghost use Rattle.std.specs.Prelude.{◌≡◌, ◌≤◌, length, All, IfOk, MatchResult};
@@ -9,9 +13,9 @@ ghost use Rattle.crn_pieces.specs.Views.{pieces_in};
 ghost use Rattle.crn_cert_text.specs.Answers.{IsAccepted, IsRejected, unclear_of};
 ghost use Rattle.crn_cert_text.specs.Views.{lines_of_proof};
 
+pub use checking::{CheckError, check_text};
 use crn_formula::{Domain, Function, FunctionKind, Piece};
 use crn_pieces::{PiecesError, clear_conditions, clear_differences, pairs};
-pub use checking::{CheckError, check_text};
 pub use making::{MakeError, make_proof};
 pub use print::print_proof;
 pub use proved::{Proved, print_proved, read_proved};
@@ -89,11 +93,15 @@ pub struct Proof {
     pub numbers: Vec<usize>,
 }
 
-/// Looks whether the lines are a proof that the pieces of a function cover its domain and agree on it.
+/// Looks whether the lines are a proof that the pieces of a function cover its domain and agree on it. Nothing is
+/// solved: the multipliers of each line are tried as they are.
 pub fn verify(alloc: Global, function: &Function, proof: &Proof) -> Result<(), VerifyError>
     requires { IsGivenByPieces (kind_of function.now.kind) }
-    ensures verdict { MatchResult result (λ _. IsAccepted function.now.domain (pieces_in function.now) (lines_of_proof proof.now.lines.items)) (IsRejected function.now.domain (pieces_in function.now) (lines_of_proof proof.now.lines.items)) }
-    ensures proved { IfOk result (λ _. Covers function.now.domain (pieces_in function.now) × Agree function.now.domain (pieces_in function.now)) }
+    ensures verdict { MatchResult result
+        (λ _. IsAccepted function.now.domain (pieces_in function.now) (lines_of_proof proof.now.lines.items))
+        (IsRejected function.now.domain (pieces_in function.now) (lines_of_proof proof.now.lines.items)) }
+    ensures covers { IfOk result (λ _. Covers function.now.domain (pieces_in function.now)) }
+    ensures agree { IfOk result (λ _. Agree function.now.domain (pieces_in function.now)) }
 {
     match function.kind() {
         FunctionKind::Pieces(pieces) => verify_pieces(
@@ -106,7 +114,7 @@ pub fn verify(alloc: Global, function: &Function, proof: &Proof) -> Result<(), V
     }
 }
 
-// Why clearing is refused.
+// Why clearing is refused: for a row, or for want of memory.
 fn unclear(error: PiecesError) -> VerifyError
     ensures { result ≡ unclear_of error }
 {
@@ -130,14 +138,18 @@ fn verify_pieces(
 ) -> Result<(), VerifyError>
     requires lengths { All (IsPieceOver (columns_of domain.now)) (pieces_of pieces.now) }
     requires few { AreFewPieces condition_count (pieces_of pieces.now) }
-    ensures verdict { MatchResult result (λ _. IsAccepted domain.now (pieces_of pieces.now) (lines_of_proof lines.now)) (IsRejected domain.now (pieces_of pieces.now) (lines_of_proof lines.now)) }
-    ensures proved { IfOk result (λ _. Covers domain.now (pieces_of pieces.now) × Agree domain.now (pieces_of pieces.now)) }
+    ensures verdict { MatchResult result
+        (λ _. IsAccepted domain.now (pieces_of pieces.now) (lines_of_proof lines.now))
+        (IsRejected domain.now (pieces_of pieces.now) (lines_of_proof lines.now)) }
+    ensures covers { IfOk result (λ _. Covers domain.now (pieces_of pieces.now)) }
+    ensures agree { IfOk result (λ _. Agree domain.now (pieces_of pieces.now)) }
 {
     let conditions = match clear_conditions(alloc, pieces) {
         Ok(conditions) => conditions,
         Err(error) => return Err(unclear(error)),
     };
     let pairs = pairs(alloc, pieces.len())?;
+    // All differences have to clear before a line is looked at. Their rows are made again pair by pair.
     match clear_differences(alloc, pieces, domain.inside().len(), pairs.as_slice()) {
         Ok(_) => {}
         Err(error) => return Err(unclear(error)),

@@ -12,7 +12,7 @@ ghost use Rattle.crn_pieces.specs.Choices.{AreChoices, IsFull, IsAskedCover};
 ghost use Rattle.crn_pieces.specs.Views.{lists_of, pieces_in};
 ghost use Rattle.crn_pieces.specs.Answers.{AreChecked, DoesDifferenceClear, IsUnsolved};
 ghost use Rattle.crn_cert_text.specs.Proofs.{IsProofOf, questions_of};
-ghost use Rattle.crn_cert_text.specs.Making.{Answered, Grows};
+ghost use Rattle.crn_cert_text.specs.Making.{IsOfTwo, NoneFull, Answered, Grows};
 ghost use Rattle.crn_cert_text.specs.Answers.{IsMade, IsUnmade};
 ghost use Rattle.crn_cert_text.specs.Views.{lines_of_proof};
 
@@ -76,9 +76,12 @@ impl From<Unsolved> for MakeError {
     }
 }
 
-/// A proof that the pieces of a function cover its domain and agree on it, as they were found to. Its lines have the numbers 1, 2, and so on.
+/// A proof that the pieces of a function cover its domain and agree on it, as they were found to. Its lines have the
+/// numbers 1, 2, and so on.
 pub fn make_proof(alloc: Global, checked: &Checked) -> Result<Proof, MakeError>
-    ensures { MatchResult result (IsMade checked.now.domain (pieces_in checked.now)) (IsUnmade checked.now.domain (pieces_in checked.now)) }
+    ensures { MatchResult result
+        (IsMade checked.now.domain (pieces_in checked.now))
+        (IsUnmade checked.now.domain (pieces_in checked.now)) }
 {
     let function = checked.function();
     match function.kind() {
@@ -93,7 +96,9 @@ fn prove_pieces(alloc: Global, domain: &Domain, pieces: &[Piece]) -> Result<Proo
     requires lengths { All (IsPieceOver (columns_of domain.now)) (pieces_of pieces.now) }
     requires few { AreFewPieces condition_count (pieces_of pieces.now) }
     requires checked { AreChecked domain.now (pieces_of pieces.now) }
-    ensures { MatchResult result (IsMade domain.now (pieces_of pieces.now)) (IsUnmade domain.now (pieces_of pieces.now)) }
+    ensures { MatchResult result
+        (IsMade domain.now (pieces_of pieces.now))
+        (IsUnmade domain.now (pieces_of pieces.now)) }
 {
     // The conditions clear, as they did when the pieces were checked.
     let Ok(conditions) = clear_conditions(alloc, pieces) else {
@@ -146,7 +151,9 @@ fn refute(
     requires lengths { All (λ r. length r.entries ≡ columns_of domain.now) rows.now }
     requires few { length rows.now ≤ 248 }
     requires none { ¬ HasPoint (system_over domain.now rows.now) }
-    ensures { MatchResult result (λ m. IsProofOf (system_over domain.now rows.now) m.items) (IsUnsolved (λ s. s ≡ system_over domain.now rows.now)) }
+    ensures { MatchResult result
+        (λ m. IsProofOf (system_over domain.now rows.now) m.items)
+        (IsUnsolved (λ s. s ≡ system_over domain.now rows.now)) }
 {
     match ask(alloc, solver, domain, rows)? {
         Verdict::Refuted(certificate) => {
@@ -178,8 +185,11 @@ fn make_pair(
     requires few { All (λ p. condition_count p ≤ 16) (pieces_of pieces.now) }
     requires none { HaveNoPoint domain.now (pieces_of pieces.now) pair }
     ensures { MatchResult result
-        (λ _. Answered (questions_of domain.now (pieces_of pieces.now) pair) (lines_of_proof lines.old.items) (lines_of_proof lines.new.items))
-        (IsUnsolved (λ s. (s ≡ first_above domain.now (pieces_of pieces.now) pair) ⊎ ((¬ HasPoint (first_above domain.now (pieces_of pieces.now) pair)) × (s ≡ second_above domain.now (pieces_of pieces.now) pair)))) }
+        (λ _. Answered (questions_of domain.now (pieces_of pieces.now) pair)
+        (lines_of_proof lines.old.items) (lines_of_proof lines.new.items))
+        (IsUnsolved (IsOfTwo
+        (first_above domain.now (pieces_of pieces.now) pair)
+        (second_above domain.now (pieces_of pieces.now) pair))) }
 {
     let (first, second) = pair;
     let (above, below) = rows_of_pair(alloc, pieces, conditions, columns, pair)?;
@@ -209,7 +219,8 @@ fn make_pairs(
     requires few { All (λ p. condition_count p ≤ 16) (pieces_of pieces.now) }
     requires none { All (HaveNoPoint domain.now (pieces_of pieces.now)) pairs.now }
     ensures { MatchResult result
-        (λ _. Answered (flat_map (questions_of domain.now (pieces_of pieces.now)) pairs.now) (lines_of_proof lines.old.items) (lines_of_proof lines.new.items))
+        (λ _. Answered (flat_map (questions_of domain.now (pieces_of pieces.now)) pairs.now)
+        (lines_of_proof lines.old.items) (lines_of_proof lines.new.items))
         (IsUnsolved (IsAskedPair domain.now (pieces_of pieces.now))) }
 {
     for i in 0..pairs.len() {
@@ -238,10 +249,13 @@ fn make_tree(
 ) -> Result<(), Unsolved>
     requires some { 0 < length conditions.now }
     requires domain { IsDomain domain.now }
-    requires none { (full : List ℕ) → IsFull (lists_of conditions.now) full → ¬ HasPoint (cover_system domain.now (lists_of conditions.now) full) }
+    requires none { NoneFull domain.now (lists_of conditions.now) }
     requires lengths { All (All (λ r. length r.entries ≡ columns_of domain.now)) (lists_of conditions.now) }
     requires few { sum_by length (lists_of conditions.now) ≤ 100 }
-    ensures { MatchResult result (λ _. Grows domain.now (lists_of conditions.now) [] (lines_of_proof lines.old.items) (lines_of_proof lines.new.items)) (IsUnsolved (IsAskedCover domain.now (lists_of conditions.now))) }
+    ensures { MatchResult result
+        (λ _. Grows domain.now (lists_of conditions.now) []
+        (lines_of_proof lines.old.items) (lines_of_proof lines.new.items))
+        (IsUnsolved (IsAskedCover domain.now (lists_of conditions.now))) }
 {
     let mut choices = Vec::new(alloc);
     let mut rows = Vec::new(alloc);
@@ -270,10 +284,13 @@ fn grow(
     requires chosen { AreChoices (lists_of conditions.now) choices.old.items }
     requires deeper { length choices.old.items < length conditions.now }
     requires point { HasPoint (cover_system domain.now (lists_of conditions.now) choices.old.items) }
-    requires none { (full : List ℕ) → IsFull (lists_of conditions.now) full → ¬ HasPoint (cover_system domain.now (lists_of conditions.now) full) }
+    requires none { NoneFull domain.now (lists_of conditions.now) }
     requires lengths { All (All (λ r. length r.entries ≡ columns_of domain.now)) (lists_of conditions.now) }
     requires few { sum_by length (lists_of conditions.now) ≤ 100 }
-    ensures grown { MatchResult result (λ _. Grows domain.now (lists_of conditions.now) choices.old.items (lines_of_proof lines.old.items) (lines_of_proof lines.new.items)) (IsUnsolved (IsAskedCover domain.now (lists_of conditions.now))) }
+    ensures grown { MatchResult result
+        (λ _. Grows domain.now (lists_of conditions.now) choices.old.items
+        (lines_of_proof lines.old.items) (lines_of_proof lines.new.items))
+        (IsUnsolved (IsAskedCover domain.now (lists_of conditions.now))) }
     ensures choices { OnOk result (choices.new.items ≡ choices.old.items) }
     ensures rows { OnOk result (rows.new.items ≡ rows.old.items) }
 {

@@ -36,11 +36,13 @@ pub struct Proved {
 
 /// The function and the proof of a text: a function part, and then proof lines.
 pub fn read_proved(alloc: Global, bytes: &[u8]) -> Result<Proved, TextError>
-    // Each answer is the right one: the function and the proof of the text, the malformed line, or the first limit that is passed.
-    ensures answer { IsRight proved_of result (IsAnswer proved_table line_number (end_of bytes.now) (plain_lines bytes.now)) }
+    // Each answer is the right one: the function and the proof of the text, the malformed line, or the first limit that
+    // is passed.
+    ensures answer { IsRight proved_of result
+        (IsAnswer proved_table line_number (end_of bytes.now) (plain_lines bytes.now)) }
     // A text that passes no limit is read.
-    ensures read { (p : PlainProved) → IsText proved_table (plain_lines bytes.now) p → PassesNone proved_table (plain_lines bytes.now)
-        → Gives proved_of result (table.Read p) }
+    ensures read { (p : PlainProved) → IsText proved_table (plain_lines bytes.now) p
+        → PassesNone proved_table (plain_lines bytes.now) → Gives proved_of result (table.Read p) }
     ensures domain { IfOk result (λ p. p.function.domain ≡ domain_for p.function.variables (kind_of p.function.kind)) }
     ensures end { IfOk result (λ p. p.end ≡ end_of bytes.now) }
 {
@@ -68,7 +70,8 @@ fn read_rest(
 ) -> Result<Proved, TextError>
     requires lines { AreLinesOf bytes.now lines.now }
     requires from { from ≤ vec_len lines.now.lines }
-    ensures answer { Gives proved_of result (answer_map (proved_with (function_of function)) (proof_answer bytes.now from)) }
+    ensures answer { Gives proved_of result
+        (answer_map (proved_with (function_of function)) (proof_answer bytes.now from)) }
     ensures function { IfOk result (λ p. p.function ≡ function) }
     ensures end { IfOk result (λ p. p.end ≡ end_of bytes.now) }
 {
@@ -87,9 +90,11 @@ fn read_rest(
 pub fn print_proved(alloc: Global, checked: &Checked, proof: &Proof) -> Result<Vec<u8>, AllocError>
     requires domain { checked.now.domain ≡ domain_for checked.now.variables (kind_of checked.now.kind) }
     requires made { IsMade checked.now.domain (pieces_in checked.now) proof.now }
-    ensures text { IfOk result (λ text. text.items ≡ proved_text (function_of checked.now) (lines_of_proof proof.now.lines.items)) }
+    ensures text { IfOk result (λ text.
+        text.items ≡ proved_text (function_of checked.now) (lines_of_proof proof.now.lines.items)) }
     // The text reads back as the function and the lines of the proof, and passes no limit.
-    ensures spells { IfOk result (λ text. IsText proved_table (plain_lines text.items) (printed_proof (function_of checked.now) (lines_of_proof proof.now.lines.items))) }
+    ensures spells { IfOk result (λ text. IsText proved_table (plain_lines text.items)
+        (printed_proof (function_of checked.now) (lines_of_proof proof.now.lines.items))) }
     ensures limits { IfOk result (λ text. PassesNone proved_table (plain_lines text.items)) }
     // So whoever reads it has this function, and a proof of it: nothing but want of memory refuses the text.
     ensures accepted { IfOk result (λ text. IsAcceptedText text.items (length proof.now.lines.items)) }

@@ -30,7 +30,9 @@ fn fits_at(
 ) -> Result<bool, AllocError>
     requires lengths { All (λ r. length r.entries ≡ columns_of domain.now) rows.now }
     requires few { length rows.now ≤ 248 }
-    ensures { IfOk result (λ fits. IsTrue fits ↔ AnswersPair (record { above = numbers.0; below = numbers.1; system = system_over domain.now rows.now }) (line_at lines.now at)) }
+    ensures { IfOk result (λ fits. IsTrue fits ↔ AnswersPair
+        (record { above = numbers.0; below = numbers.1; system = system_over domain.now rows.now })
+        (line_at lines.now at)) }
 {
     if at >= lines.len() {
         return Ok(false);
@@ -67,7 +69,8 @@ fn verify_pair(
     requires fits { at ≤ 4000 }
     ensures { AnswersBoth
         (record { above = pair.0; below = pair.1; system = first_above domain.now (pieces_of pieces.now) pair })
-        (record { above = pair.1; below = pair.0; system = second_above domain.now (pieces_of pieces.now) pair }) lines.now at result }
+        (record { above = pair.1; below = pair.0; system = second_above domain.now (pieces_of pieces.now) pair })
+        lines.now at result }
 {
     let (first, second) = pair;
     let (above, below) = rows_of_pair(alloc, pieces, conditions, domain.inside().len(), pair)?;

@@ -22,7 +22,9 @@ pub fn ask(
 ) -> Result<Verdict, Unsolved>
     requires lengths { All (λ r. length r.entries ≡ columns_of domain.now) rows.now }
     requires few { length rows.now ≤ 248 }
-    ensures { MatchResult result (IsVerdict (system_over domain.now rows.now)) (IsUnsolved (λ s. s ≡ system_over domain.now rows.now)) }
+    ensures { MatchResult result
+        (IsVerdict (system_over domain.now rows.now))
+        (IsUnsolved (λ s. s ≡ system_over domain.now rows.now)) }
 {
     let system = system_of(alloc, domain, rows)?;
     match solver.solve(alloc, &system) {

@@ -66,7 +66,8 @@ fn go_on(conditions: &[Vec<Row>], choices: &mut Vec<usize>) -> Result<(), AllocE
     Ok(())
 }
 
-// To the first of the parts that belong to these choices, or to what comes after them where the next piece has no condition.
+// To the first of the parts that belong to these choices, or to what comes after them where the next piece has no
+// condition.
 fn go_in(conditions: &[Vec<Row>], choices: &mut Vec<usize>) -> Result<(), AllocError>
     requires chosen { AreChoices (lists_of conditions.now) choices.old.items }
     requires deeper { length choices.old.items < length conditions.now }
@@ -93,7 +94,8 @@ pub fn verify_tree(
     requires lengths { All (All (λ r. length r.entries ≡ columns_of domain.now)) (lists_of conditions.now) }
     requires few { sum_by length (lists_of conditions.now) ≤ 100 }
     requires fits { before + length lines.now < usize.MAX }
-    ensures { Verifies domain.now (lists_of conditions.now) (place_of (first_part (lists_of conditions.now) [])) before (lines_of_proof lines.now) result }
+    ensures { Verifies domain.now (lists_of conditions.now) (place_of (first_part (lists_of conditions.now) []))
+        before (lines_of_proof lines.now) result }
 {
     let mut choices = Vec::new(alloc);
     go_in(conditions, &mut choices)?;

@@ -15,7 +15,7 @@ use Rattle.crn_cert_text.specs.Proofs.{place_of, first_part}
 use Rattle.crn_cert_text.specs.Views.{lines_of_proof}
 use Rattle.crn_cert_text.specs.Answers.{ArePairsDone, Verifies, IsRejected}
 use Rattle.crn_cert_text.proofs.Whole.{few_pairs, verified}
-use Rattle.crn_cert_text.proofs.OneVerdict.{accepted_means}
+use Rattle.crn_cert_text.proofs.OneVerdict.{accepted_covers, accepted_agree}
 use Rattle.crn_cert_text.proofs.verify_pieces.Goals as goal
 use Rattle.crn_cert_text.proofs.verify_pieces.Goals.{After-as_slice-3, After-as_slice-4}
 
@@ -55,7 +55,12 @@ returns-clause-verdict c =
     verified D P lines some c.in-Ok.ensures.1 apart m done c.verify_tree.result
     (subst (λ (C : List (List Row)). Verifies D C (place_of (first_part C [])) m (lines_of_proof (drop m lines)) c.verify_tree.result) (rows_are t) rest)
 
-pub returns-clause-proved : goal.returns-clause-proved
-returns-clause-proved c =
-    accepted_means c.args.domain.now (pieces_of c.args.pieces.now) (lines_of_proof c.args.lines.now) c.inside.ensures.strictly c.requires.lengths (omega (arith, c.requires.few.some)) c.verify_tree.result
+pub returns-clause-covers : goal.returns-clause-covers
+returns-clause-covers c =
+    accepted_covers c.args.domain.now (pieces_of c.args.pieces.now) (lines_of_proof c.args.lines.now) c.inside.ensures.strictly c.requires.lengths (omega (arith, c.requires.few.some)) c.verify_tree.result
+    (IsRejected c.args.domain.now (pieces_of c.args.pieces.now) (lines_of_proof c.args.lines.now)) (returns-clause-verdict c)
+
+pub returns-clause-agree : goal.returns-clause-agree
+returns-clause-agree c =
+    accepted_agree c.args.domain.now (pieces_of c.args.pieces.now) (lines_of_proof c.args.lines.now) c.inside.ensures.strictly c.requires.lengths (omega (arith, c.requires.few.some)) c.verify_tree.result
     (IsRejected c.args.domain.now (pieces_of c.args.pieces.now) (lines_of_proof c.args.lines.now)) (returns-clause-verdict c)

@@ -18,7 +18,7 @@ returns-in-Ok-verify-clause-verdict c =
 
 pub returns-in-Ok-verify-clause-proved : goal.returns-in-Ok-verify-clause-proved
 returns-in-Ok-verify-clause-proved c =
-    proved_of_text c.args.bytes.now c.in-Ok.proved c.in-Ok.ensures.answer c.in-Ok.ensures.domain (c.is_given_by_pieces.ensures.0 c.if-not-is_given_by_pieces.false) c.in-Ok-verify.ensures.proved
+    proved_of_text c.args.bytes.now c.in-Ok.proved c.in-Ok.ensures.answer c.in-Ok.ensures.domain (c.is_given_by_pieces.ensures.0 c.if-not-is_given_by_pieces.false) (c.in-Ok-verify.ensures.covers, c.in-Ok-verify.ensures.agree)
 
 pub returns-clause-verdict : goal.returns-clause-verdict
 returns-clause-verdict c =
