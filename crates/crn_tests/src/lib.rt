@@ -7,4 +7,8 @@ mod compiled_functions;
 #[cfg(test)]
 mod max_min_formulas;
 #[cfg(test)]
+mod normal_forms;
+#[cfg(test)]
+mod same_functions;
+#[cfg(test)]
 mod shared;
