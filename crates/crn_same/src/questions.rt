@@ -74,7 +74,12 @@ impl Questions {
     }
 
     // The system of a set.
-    fn system_of(&mut self, alloc: Global, domain: &Domain, set: &[Form]) -> Result<System, SameError>
+    fn system_of(
+        &mut self,
+        alloc: Global,
+        domain: &Domain,
+        set: &[Form],
+    ) -> Result<System, SameError>
         requires columns { All (λ f. length f ≡ columns_of domain.now) set.now }
         requires few { length set.now ≤ 64 }
         requires rows { AreRows self.old.forms.keys self.old.rows.items }

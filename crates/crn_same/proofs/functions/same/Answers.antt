@@ -5,8 +5,8 @@ use Rattle.crn_same.proofs.functions.same.Goals as goal
 pub same_on-requires : goal.same_on-requires
 same_on-requires c = record {
   columns = over_kept c.args.first.variables c.args.second.variables c.requires.variables (kind_of c.args.first.kind) (kind_of c.args.second.kind) c.common_domain-domain.ensures.first c.common_domain-domain.ensures.second
-    c.in_ok-a.a c.in_ok-b.b c.in_ok-a.ensures.formula c.in_ok-b.ensures.formula (plain_of c.formula.result.now) (plain_of c.formula-2.result.now) c.formula.ensures c.formula-2.ensures
-    c.common_domain-domain.result c.common_domain-domain.ensures.domain;
+      c.in_ok-a.a c.in_ok-b.b c.in_ok-a.ensures.formula c.in_ok-b.ensures.formula (plain_of c.formula.result.now) (plain_of c.formula-2.result.now) c.formula.ensures c.formula-2.ensures
+      c.common_domain-domain.result c.common_domain-domain.ensures.domain;
 }
 
 pub returns-clause-same : goal.returns-clause-same
