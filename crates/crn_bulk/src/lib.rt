@@ -1,4 +1,6 @@
 //! The generator of `bulk`: a function of four variables and amounts of its inputs, made by draws from a number on.
+//!
+//! `bulk_job` answers the job that `specs/Generator.antt` defines by its draws, and the number at which the later draws begin.
 #![tactic(auto)]
 
 ghost use Rattle.std.specs.Prelude.{◌≡◌, ◌<◌, ◌≤◌, ◌*◌, ◌%◌, ◌^◌, length, unsigned_abs, IfOk};

@@ -1,4 +1,7 @@
 //! Elimination of the columns of a system, by the rule of Fourier and Motzkin: it answers a point that meets the system, or a certificate that none does.
+//!
+//! Each answer is checked by its own definition (a point that meets the system, or a certificate), and is elimination's own (`specs/Elimination.antt`). A limit
+//! is told exactly where elimination passes it. `laws` says for which systems no limit comes.
 #![tactic(auto)]
 
 ghost use Rattle.std.specs.Prelude.{◌≡◌, length, Ok, IfOk};

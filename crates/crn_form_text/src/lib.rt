@@ -1,4 +1,7 @@
 //! Numbers, linear forms and formulas as they are written in the tokens of one line.
+//!
+//! What is read is what the tokens spell, by the cases of `specs/Grammar.antt`, and nothing is read exactly where they spell nothing. What is printed is the text
+//! of `specs/Printing.antt`, and spells what was printed.
 #![tactic(auto)]
 
 mod form;

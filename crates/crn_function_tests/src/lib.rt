@@ -19,6 +19,8 @@ mod functions;
 #[cfg(test)]
 mod linear_forms;
 #[cfg(test)]
+mod proof_texts;
+#[cfg(test)]
 mod quick_solver;
 #[cfg(test)]
 mod shared;

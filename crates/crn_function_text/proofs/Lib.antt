@@ -5,6 +5,7 @@ pub mod ValueLaws
 pub mod GrammarLaws
 pub mod Steps
 pub mod Kept
+pub mod TwoLaws
 pub mod PrintedColumns
 pub mod PrintedText
 pub mod LinesWritten

@@ -59,7 +59,7 @@ kind_token (ByFormula e) = refl
 kind_token (ByPieces pieces) = refl
 kind_token (ByLeast forms) = refl
 
-function_are : (f : PlainFunction) → f.variables ≤ 8 → AreKindFracs f.variables f.kind → AreLines (function_lines f)
+pub function_are : (f : PlainFunction) → f.variables ≤ 8 → AreKindFracs f.variables f.kind → AreLines (function_lines f)
 function_are f few fits =
     word_is (codes "function") (Shown (PlainWord (kind_word f.kind)) ∷ []) (word_line (codes "variables") (Shown (PlainNumber (pos f.variables)) ∷ []) ∷ kind_lines f.variables f.kind) refl (kind_token f.kind, refl, tt)
     (word_is (codes "variables") (Shown (PlainNumber (pos f.variables)) ∷ []) (kind_lines f.variables f.kind) refl ((omega (arith, ints), omega (arith, ints, few)), refl, tt)

@@ -13,7 +13,7 @@ use Rattle.crn_function_text.specs.declared.words.Word.{Word}
 use Rattle.crn_function_text.specs.declared.words.Word.TheVariants as word
 use Rattle.crn_function_text.specs.declared.words.Given.TheVariants as given
 use Rattle.crn_function_text.specs.Words.{first_word}
-use Rattle.crn_function_text.specs.Grammar.{PlainFunction, Place, Start, Header, Sized, Valued, InPieces, InForms, follow, allows, next, goes_on, function_table, function_part, function_answer}
+use Rattle.crn_function_text.specs.Grammar.{PlainFunction, Place, Start, Header, Sized, Valued, InPieces, InForms, follow, allows, next, goes_on, function_table, function_part, rest_answer}
 use Rattle.crn_function_text.proofs.GrammarLaws.{not_followed}
 
 -- ---- the tokens of a line
@@ -54,15 +54,17 @@ line_goes bytes line s w b word_is is = ap (allows s) (sym word_is) ∙ is
 never_next : (s : Place) (line : PlainLine) → goes_on s line ≡ false → next s line ≡ None
 never_next s line off = not_followed s (first_word (says line)) (rest_of (says line)) off
 
--- the answer to a text, by its function part
-text_answer : (bytes : List ℕ) → function_answer bytes ≡ whole_answer line_number (function_part bytes 0)
-text_answer bytes = text_is_part function_table goes_on line_number (end_of bytes) never_next Start (plain_lines bytes)
+-- the answer to lines that are a text, by its function part
+text_answer : (bytes : List ℕ) (from : ℕ) → rest_answer bytes from ≡ whole_answer line_number (function_part bytes from)
+text_answer bytes from = text_is_part function_table goes_on line_number (end_of bytes) never_next Start (drop from (plain_lines bytes))
 
-pub text_read : (bytes : List ℕ) (f : PlainFunction) (n : ℕ) → function_part bytes 0 ≡ Ends f (drop n (plain_lines bytes)) → drop n (plain_lines bytes) ≡ [] → function_answer bytes ≡ Read f
-text_read bytes f n is none = text_answer bytes ∙ ap (whole_answer line_number) (is ∙ ap (Ends f) none)
+pub text_read : (bytes : List ℕ) (from : ℕ) (f : PlainFunction) (n : ℕ) → function_part bytes from ≡ Ends f (drop n (plain_lines bytes)) → drop n (plain_lines bytes) ≡ []
+    → rest_answer bytes from ≡ Read f
+text_read bytes from f n is none = text_answer bytes from ∙ ap (whole_answer line_number) (is ∙ ap (Ends f) none)
 
-pub text_goes_on : (bytes : List ℕ) (f : PlainFunction) (n : ℕ) (line : PlainLine) (rest : List PlainLine) → function_part bytes 0 ≡ Ends f (drop n (plain_lines bytes)) → drop n (plain_lines bytes) ≡ line ∷ rest → function_answer bytes ≡ Malformed line.number
-text_goes_on bytes f n line rest is more = text_answer bytes ∙ ap (whole_answer line_number) (is ∙ ap (Ends f) more)
+pub text_goes_on : (bytes : List ℕ) (from : ℕ) (f : PlainFunction) (n : ℕ) (line : PlainLine) (rest : List PlainLine) → function_part bytes from ≡ Ends f (drop n (plain_lines bytes))
+    → drop n (plain_lines bytes) ≡ line ∷ rest → rest_answer bytes from ≡ Malformed line.number
+text_goes_on bytes from f n line rest is more = text_answer bytes from ∙ ap (whole_answer line_number) (is ∙ ap (Ends f) more)
 
-pub text_refused : (bytes : List ℕ) (e : TextError) → RefusesPart e (function_part bytes 0) → Refuses e (function_answer bytes)
-text_refused bytes e is = subst (Refuses e) (sym (text_answer bytes)) (whole_refused line_number e (function_part bytes 0) is)
+pub text_refused : (bytes : List ℕ) (from : ℕ) (e : TextError) → RefusesPart e (function_part bytes from) → Refuses e (rest_answer bytes from)
+text_refused bytes from e is = subst (Refuses e) (sym (text_answer bytes from)) (whole_refused line_number e (function_part bytes from) is)

@@ -159,7 +159,10 @@ function_table = record { start = Start; next = next; whole = whole; limit = lim
 
 -- ---- texts
 
--- the answer to a text
+-- the answer to the lines from a line on that is counted from 0, and to a text
+abbrev pub rest_answer : List ℕ → ℕ → Answer PlainFunction (Counted × ℕ)
+rest_answer bytes from = answer function_table line_number (end_of bytes) Start (drop from (plain_lines bytes))
+
 abbrev pub function_answer : List ℕ → Answer PlainFunction (Counted × ℕ)
 function_answer bytes = answer function_table line_number (end_of bytes) Start (plain_lines bytes)
 

@@ -3,4 +3,5 @@ pub mod Columns
 pub mod Spelled
 pub mod Grammar
 pub mod Reading
+pub mod Two
 pub mod Printing

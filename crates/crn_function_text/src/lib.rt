@@ -1,4 +1,7 @@
 //! The text of functions: its grammar, apart from how it is read, and the function that a text spells.
+//!
+//! Each answer of a reader is the right one for its table of lines (`specs/Grammar.antt`): the function, the malformed line, or the first line that passes a
+//! limit; the same of two functions one after the other (`specs/Two.antt`). A printed function reads back as itself.
 #![tactic(auto)]
 
 ghost use Rattle.std.specs.Prelude.{◌≡◌, ◌≤◌, List, drop, vec_len, IfOk};
@@ -10,8 +13,9 @@ ghost use Rattle.crn_grammar.specs.Part.{IsPart, IsPartAnswer, Ends, part_end};
 ghost use Rattle.crn_grammar.specs.Reading.{Gives, GivesPart, IsRight, IsRightPart};
 ghost use Rattle.crn_formula.specs.Domains.{domain_for};
 ghost use Rattle.crn_formula.specs.Views.{kind_of};
-ghost use Rattle.crn_function_text.specs.Grammar.{PlainFunction, function_table, goes_on, function_part, function_answer};
+ghost use Rattle.crn_function_text.specs.Grammar.{PlainFunction, function_table, goes_on, function_part, function_answer, rest_answer};
 ghost use Rattle.crn_function_text.specs.Reading.{shown, function_of, IsKept};
+ghost use Rattle.crn_function_text.specs.Two.{TwoFunctions, two_table, two_answer, two_of};
 
 pub use crn_form_text::read_plain_form;
 use crn_formula::Function;
@@ -113,10 +117,53 @@ fn read_text(alloc: Global, bytes: &[u8]) -> Result<Function, FunctionTextError>
     ensures domain { IfOk result (λ f. f.domain ≡ domain_for f.variables (kind_of f.kind)) }
 {
     let lines = token_lines(alloc, bytes)?;
-    let (function, next) = read_function_lines(alloc, bytes, &lines, 0)?;
+    read_rest(alloc, bytes, &lines, 0)
+}
+
+// The function of the lines from the one with this index to the end.
+fn read_rest(
+    alloc: Global,
+    bytes: &[u8],
+    lines: &Lines,
+    from: usize,
+) -> Result<Function, FunctionTextError>
+    requires lines { AreLinesOf bytes.now lines.now }
+    requires from { from ≤ vec_len lines.now.lines }
+    ensures answer { Gives function_of result (rest_answer bytes.now from) }
+    ensures domain { IfOk result (λ f. f.domain ≡ domain_for f.variables (kind_of f.kind)) }
+{
+    let (function, next) = read_function_lines(alloc, bytes, lines, from)?;
     if next < lines.lines.len() {
         let line = lines.lines[next].number;
         return Err(FunctionTextError::Malformed { line });
     }
     Ok(function)
+}
+
+/// The two functions of a text, of which the second follows the first.
+pub fn read_two_functions(
+    alloc: Global,
+    bytes: &[u8],
+) -> Result<(Function, Function), FunctionTextError>
+    // Each answer is the right one: the two functions of the text, the malformed line, or the first limit that is passed.
+    ensures answer { IsRight two_of result (IsAnswer two_table line_number (end_of bytes.now) (plain_lines bytes.now)) }
+    // A text that passes no limit is read.
+    ensures read { (both : TwoFunctions) → IsText two_table (plain_lines bytes.now) both → PassesNone two_table (plain_lines bytes.now)
+        → Gives two_of result (table.Read both) }
+    ensures first_domain { IfOk result (λ r. r.0.domain ≡ domain_for r.0.variables (kind_of r.0.kind)) }
+    ensures second_domain { IfOk result (λ r. r.1.domain ≡ domain_for r.1.variables (kind_of r.1.kind)) }
+{
+    read_two(alloc, bytes)
+}
+
+// The two functions of a text, line by line.
+fn read_two(alloc: Global, bytes: &[u8]) -> Result<(Function, Function), FunctionTextError>
+    ensures answer { Gives two_of result (two_answer bytes.now) }
+    ensures first_domain { IfOk result (λ r. r.0.domain ≡ domain_for r.0.variables (kind_of r.0.kind)) }
+    ensures second_domain { IfOk result (λ r. r.1.domain ≡ domain_for r.1.variables (kind_of r.1.kind)) }
+{
+    let lines = token_lines(alloc, bytes)?;
+    let (first, next) = read_function_lines(alloc, bytes, &lines, 0)?;
+    let second = read_rest(alloc, bytes, &lines, next)?;
+    Ok((first, second))
 }

@@ -10,7 +10,7 @@ use Rattle.crn_grammar.specs.Reading.{Refuses, RefusesPart}
 use Rattle.crn_grammar.proofs.FollowedLaws.{followed_on, followed_is, followed_refused, followed_can_end, Stops}
 use Rattle.crn_net.specs.declared.Rails.TheVariants.{Direct}
 use Rattle.crn_job.specs.Grammar.{Tail, TailValue, tail_start, tail_whole, tail_answer, with_input, value_at}
-use Rattle.crn_job.proofs.JobLaws.{nothing, input_line, zeros_lead, inputs_end}
+use Rattle.crn_job.proofs.JobLaws.{nothing, input_line, zeros_lead, inputs_end, tail_places_can_end}
 use Rattle.crn_gated.specs.Grammar.{PlainGated, Place, Start, Header, Sized, InForms, gated_table, goes_on, gated_part}
 use Rattle.crn_gated.proofs.GrammarLaws.{next_goes, gated_can_end}
 use Rattle.crn_gated.specs.JobGrammar.{gated_tail, gated_job_with, gated_job_table, gated_job_answer}
@@ -55,4 +55,4 @@ begins s f (suc n) some = go (inputs_end Direct f.variables n (with_input (tail_
     )
 
 pub gated_job_can_end : CanEnd gated_job_table
-gated_job_can_end = followed_can_end gated_table goes_on gated_tail gated_job_with gated_can_end next_goes (λ f t. inputs_end Direct f.variables t.left t refl) (λ s f is. begins s f f.variables refl)
+gated_job_can_end = followed_can_end gated_table goes_on gated_tail gated_job_with gated_can_end next_goes (λ f. tail_places_can_end Direct f.variables) (λ s f is. begins s f f.variables refl)

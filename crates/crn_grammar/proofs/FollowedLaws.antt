@@ -142,25 +142,27 @@ module _ {S R L F V G W : Type 0} (table : Table S L F W) (goes_on : S → L →
       go None here = let wrong : ◌≡◌ {A = Option R} None (Some p) = here in cc
       go (Some u) here = rest_after f more u p here
 
-  -- what is known of a place in the part: lines lead to it
+  -- what is known of a place, in the part or in what follows: lines lead to it
   abbrev fine : Either S (Following F R) → Type 0
   fine (Part s) = (lines : List L) × (after table table.start lines ≡ Some s)
-  fine (After r) = Unit {0}
+  fine (After r) = (lines : List L) × (after (rest r.part) (rest r.part).start lines ≡ Some r.place)
 
   abbrev fine_option : Option (Either S (Following F R)) → Type 0
   fine_option None = Unit {0}
   fine_option (Some t) = fine t
 
-  fine_after : (o : Option (Following F R)) → fine_option (option_map (λ r. After r) o)
-  fine_after None = tt
-  fine_after (Some r) = tt
+  -- a line more after these
+  fine_after : (f : F) (lines : List L) (p : R) (line : L) → after (rest f) (rest f).start lines ≡ Some p → (o : Option R) → (rest f).next p line ≡ o
+      → fine_option (option_map (λ r. After r) (option_map (λ q. record { part = f; place = q }) o))
+  fine_after f lines p line there None e = tt
+  fine_after f lines p line there (Some q) e = (lines ++ line ∷ [], after_then (rest f) (rest f).start p lines (line ∷ []) there ∙ ap (option_and_then (λ u. Some u)) e)
 
   fine_enters : (line : L) (o : Option F) → fine_option (option_and_then (λ g. option_map (λ r. After r) (following_next rest (following_start rest g) line)) o)
   fine_enters line None = tt
-  fine_enters line (Some g) = fine_after (following_next rest (following_start rest g) line)
+  fine_enters line (Some g) = fine_after g [] (rest g).start line refl ((rest g).next (rest g).start line) refl
 
   fine_next : (s : Either S (Following F R)) (line : L) → fine s → fine_option (text.next s line)
-  fine_next (After r) line is = fine_after (following_next rest r line)
+  fine_next (After r) line (lines, there) = fine_after r.part lines r.place line there ((rest r.part).next r.place line) refl
   fine_next (Part s) line (lines, there) = go (goes_on s line) (inside (table.next s line) refl)
     where
       inside : (o : Option S) → table.next s line ≡ o → fine_option (option_map (λ t. Part t) o)
@@ -177,7 +179,7 @@ module _ {S R L F V G W : Type 0} (table : Table S L F W) (goes_on : S → L →
 
   -- Each place of the text can end where each of the part and of what follows can, the part goes on with each line that is allowed in it,
   -- and a line that may come first after the whole part is none of it.
-  pub followed_can_end : CanEnd table → ((s : S) (line : L) (t : S) → table.next s line ≡ Some t → goes_on s line ≡ true) → ((f : F) (p : R) → Stops (rest f) p)
+  pub followed_can_end : CanEnd table → ((s : S) (line : L) (t : S) → table.next s line ≡ Some t → goes_on s line ≡ true) → ((f : F) → CanEnd (rest f))
       → ((s : S) (f : F) → table.whole s ≡ Some f → (more : List L) × (p : R) × (v : V) × (after (rest f) (rest f).start more ≡ Some p) × ((rest f).whole p ≡ Some v) × Leaves goes_on s more)
       → CanEnd text
   followed_can_end part_ends goes rest_ends begins = can_end text fine ([], refl) kept ends
@@ -190,6 +192,6 @@ module _ {S R L F V G W : Type 0} (table : Table S L F W) (goes_on : S → L →
           let (more, t, f, led, whole) = part_ends lines s there in
           let (lines', p, v, after_is, end, leaves) = begins t f whole in
           along (Part s) (Part t) more (part_after goes more s t led) (stops_whole t f lines' p v whole after_is end leaves)
-      ends (After r) is =
-          let (more, p, v, led, end) = rest_ends r.part r.place in
+      ends (After r) (lines, there) =
+          let (more, p, v, led, end) = rest_ends r.part lines r.place there in
           (more, at r.part p, value r.part v, rest_after r.part more r.place p led, ap (option_map (value r.part)) end)

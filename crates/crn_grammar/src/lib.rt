@@ -1,4 +1,7 @@
 //! Grammars of lines, as tables of what may follow a line, and the right answer to a text.
+//!
+//! The laws say that the answer line by line is the right one, by what continuations a text has: its value, the first line after which no text can go on, or
+//! the first line that passes a limit; that there is one right answer; and the same of a part of a text and of texts in two parts.
 #![tactic(auto)]
 
 mod error;

@@ -96,4 +96,4 @@ begins s f (suc n) some =
 
 pub job_places_can_end : CanEnd job_table
 job_places_can_end =
-    followed_can_end function_table goes_on job_tail job_with function_can_end goes_where_allowed (λ f t. inputs_end (rails_of f.kind) f.variables t.left t refl) (λ s f is. begins s f f.variables refl)
+    followed_can_end function_table goes_on job_tail job_with function_can_end goes_where_allowed (λ f. tail_places_can_end (rails_of f.kind) f.variables) (λ s f is. begins s f f.variables refl)

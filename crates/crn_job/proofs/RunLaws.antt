@@ -43,5 +43,5 @@ stops n t = ([], t, value_of t, refl, refl)
 
 pub run_places_can_end : CanEnd run_table
 run_places_can_end =
-    followed_can_end network_table goes_on run_tail run_with network_can_end goes_where_allowed (λ net t. stops net.species t)
+    followed_can_end network_table goes_on run_tail run_with network_can_end goes_where_allowed (λ net lines t there. stops net.species t)
     (λ s net is. ([], run_start net.species, value_of (run_start net.species), refl, refl, tt))

@@ -1,4 +1,7 @@
 //! The text of jobs: a function, the amounts of its inputs, and segments; and of run jobs: a network, amounts of its species, and segments.
+//!
+//! Each answer of a reader is the right one for its table of lines (`specs/Grammar.antt`, `specs/RunGrammar.antt`). What a text within the limits gives keeps the rules:
+//! an amount for each species of the inputs, none negative, and segments.
 #![tactic(auto)]
 
 ghost use Rattle.std.specs.Prelude.{◌≡◌, ◌≤◌, ◌*◌, length, drop, vec_len, IfOk};

@@ -1,4 +1,7 @@
 //! The text of a network: printed and read.
+//!
+//! `print_network` answers the text of `specs/NetworkText.antt`, and `read_network` the right answer for the table of lines of `specs/Grammar.antt`; the texts of the
+//! table are the printed lines of networks, so a printed network reads back as itself.
 #![tactic(auto)]
 
 ghost use Rattle.std.specs.Prelude.{◌≡◌, ◌≤◌, List, drop, vec_len, IfOk};

@@ -26,10 +26,11 @@ use Rattle.crn_gated.specs.JobGrammar.{PlainGatedJob}
 use Rattle.crn_gated.specs.Layout.{gated_layout}
 use Rattle.crn_gated.proofs.KeptJobs.{text_gated_job}
 use Rattle.crn_bulk.specs.Generator.{bulk_job, bulk_number}
-use Rattle.crn_program.specs.Answer.{Answers, IsFunctionAnswer, IsNetworkAnswer, IsJobAnswer, IsRunAnswer, IsGatedAnswer, IsGatedJobAnswer, IsFoundInText, IsFoundWithoutText, IsOutcomeOfFunction, IsOutcomeOfJob, IsOutcomeOfRunJob, IsOutcomeOfGated, IsOutcomeOfGatedJob, IsOutcomeOfHalves, IsOutcomeOfBulk}
+use Rattle.crn_program.specs.Answer.{Answers, IsFoundInText, IsFoundWithoutText, IsOutcomeOfFunction, IsOutcomeOfJob, IsOutcomeOfRunJob, IsOutcomeOfGated, IsOutcomeOfGatedJob, IsOutcomeOfHalves, IsOutcomeOfBulk}
+use Rattle.crn_program.specs.Texts.{IsFunctionAnswer, IsNetworkAnswer, IsJobAnswer, IsRunAnswer, IsGatedAnswer, IsGatedJobAnswer}
 use Rattle.crn_program.specs.Bulk.{halves}
 use Rattle.crn_program.specs.Correct.{CompletesTo, CompletesGatedTo, Compiles, Completes, Runs, CompilesGated, CompletesGated, RunsBulk, EndsWithValue}
-use Rattle.crn_program.specs.Finding.{Outcome, NotCompiled, RefusedSegment, Unfinished, NoValue, Compiled, Completed, CompletedGated, Ran, UnfitStep, Bulked, Finding, NoCommand, LongText, WrongLine, PastLimit, Comes, status_of, status_of_outcome, status_of_cause, status_of_step, text_of, text_of_outcome}
+use Rattle.crn_program.specs.Finding.{Outcome, RefusedFunction, RefusedSegment, Unfinished, NoValue, Compiled, Completed, CompletedGated, Ran, UnfitStep, Bulked, Finding, NoCommand, LongText, WrongLine, PastLimit, Comes, status_of, status_of_outcome, status_of_cause, status_of_step, text_of, text_of_outcome}
 use Rattle.crn_program.specs.Report.{EndsWith, value_line, completion_report, run_report}
 use Rattle.crn_program.specs.Gated.{IsCompletedGated}
 use Rattle.crn_program.specs.Runs.{IsCompleted, IsRefusedCompletion, IsOutcomeOfSegments}
@@ -40,44 +41,11 @@ use Rattle.crn_program.specs.declared.words.TextCommand.TheVariants.{Compile, Co
 use Rattle.crn_program.specs.declared.status.Status.{Status}
 use Rattle.crn_program.specs.declared.status.Status.TheVariants as status
 use Rattle.crn_program.proofs.Computing.{computes_value, job_amounts}
+use Rattle.crn_program.proofs.Done.{IsDone, done, not_done, comes_in_text}
 use Rattle.crn_program.proofs.Encoding.{starts_encode}
 use Rattle.crn_program.proofs.Endings.{found_by}
 use Rattle.crn_program.proofs.GatedJobs.{gated_amounts}
 use Rattle.crn_program.proofs.ReportLaws.{completion_ends, run_ends, bulk_ends}
-
--- ---- what is done
-
-abbrev IsDone : Status → Type 0
-IsDone status.Done = Unit {0}
-IsDone _ = ⊥
-
-done : (s : Status) → status.Done ≡ s → IsDone s
-done s is = subst IsDone is tt
-
--- no cause is told as done
-not_done : (e : CompileError) → IsDone (status_of_cause e) → ⊥
-not_done (cause.TooManyForms count) is = is
-not_done (cause.BigCondition i c) is = is
-not_done (cause.BigDifference i j) is = is
-not_done (cause.Disagree i j p) is = is
-not_done (cause.NotCovered p) is = is
-not_done (cause.TooBig kept) is = is
-not_done (cause.TooManyRows kept) is = is
-not_done (cause.TooManyCells count) is = is
-not_done (cause.TooManyNodes count) is = is
-not_done cause.Memory is = is
-
--- what has none of the statuses of a text that is not read comes of its value
-abbrev pub ComesOf : {V : Type 0} → (List ℕ → grammar.Answer V (Counted × ℕ) → Type 0) → (V → Outcome → Type 0) → List ℕ → Finding → Type 0
-ComesOf {V} IsRight Found bytes f = (v : V) × (o : Outcome) × IsRight bytes (grammar.Read v) × Found v o × (f ≡ Comes o)
-
-pub comes_in_text : {V : Type 0} (P : Status → Type 0) → (P status.TextTooLong → ⊥) → (P status.Malformed → ⊥) → (P status.Limit → ⊥) → (IsRight : List ℕ → grammar.Answer V (Counted × ℕ) → Type 0)
-    (Found : V → Outcome → Type 0) (bytes : List ℕ) (f : Finding) → IsFoundInText IsRight Found bytes f → P (status_of f) → ComesOf IsRight Found bytes f
-comes_in_text P long malformed limit IsRight Found bytes NoCommand found is = absurd found
-comes_in_text P long malformed limit IsRight Found bytes LongText found is = absurd (long is)
-comes_in_text P long malformed limit IsRight Found bytes (WrongLine n) found is = absurd (malformed is)
-comes_in_text P long malformed limit IsRight Found bytes (PastLimit what count) found is = absurd (limit is)
-comes_in_text P long malformed limit IsRight Found bytes (Comes o) found is = (found.1, o, found.2, found.3, refl)
 
 -- ---- what a text ends with
 
@@ -94,7 +62,7 @@ pieces_checked f net is pieces by =
     (own.checked.covers, own.checked.agree)
 
 compiles : (bytes text : List ℕ) (f : PlainFunction) (o : Outcome) → IsFunctionAnswer bytes (grammar.Read f) → IsOutcomeOfFunction f o → IsDone (status_of_outcome o) → text ≡ text_of_outcome o → Compiles bytes text
-compiles bytes text f (NotCompiled k e) read found is text_is = absurd (not_done e is)
+compiles bytes text f (RefusedFunction k e) read found is text_is = absurd (not_done e is)
 compiles bytes text f (Compiled net) read found is text_is = record {
   function = f;
   net = net;
@@ -136,7 +104,7 @@ done_segments net value a us (Completed n c) found is = (c, ap (λ m. Completed 
 done_segments net value a us o found is = absurd (no_refusal_done net found.0 o found.2 is)
 
 done_job : (job : PlainJob) (o : Outcome) → IsOutcomeOfJob job o → IsDone (status_of_outcome o) → IsDoneJob job o
-done_job job (NotCompiled k e) found is = absurd (not_done e is)
+done_job job (RefusedFunction k e) found is = absurd (not_done e is)
 done_job job o found is =
     let (c, same, end) = done_segments found.0 found.1 (start found.0 job.amounts) job.segments o found.4 is in (found.0, found.1, c, found.2, found.3, same, end)
 
@@ -247,33 +215,33 @@ bulk_found n bytes text _ found is text_is = absurd found
 -- ---- the laws
 
 module _ (words : List (List ℕ)) (bytes text : List ℕ) (answer : Answers words bytes status.Done text) where
-  is_done : IsDone (status_of answer.finding)
-  is_done = done (status_of answer.finding) answer.status_is
+  is_done : IsDone (status_of answer.what)
+  is_done = done (status_of answer.what) answer.status_is
 
   pub compile_right : IsRow (OfText Compile) words → Compiles bytes text
   compile_right row =
-      let (f, o, read, found, is) = comes_in_text IsDone (λ d. d) (λ d. d) (λ d. d) IsFunctionAnswer IsOutcomeOfFunction bytes answer.finding (found_by words (OfText Compile) bytes answer.finding row answer.found) is_done in
+      let (f, o, read, found, is) = comes_in_text IsDone (λ d. d) (λ d. d) (λ d. d) IsFunctionAnswer IsOutcomeOfFunction bytes answer.what (found_by words (OfText Compile) bytes answer.what row answer.found) is_done in
       compiles bytes text f o read found (subst (λ g. IsDone (status_of g)) is is_done) (answer.text_is ∙ ap text_of is)
 
   pub complete_right : IsRow (OfText Complete) words → Completes bytes text
   complete_right row =
-      let (job, o, read, found, is) = comes_in_text IsDone (λ d. d) (λ d. d) (λ d. d) IsJobAnswer IsOutcomeOfJob bytes answer.finding (found_by words (OfText Complete) bytes answer.finding row answer.found) is_done in
+      let (job, o, read, found, is) = comes_in_text IsDone (λ d. d) (λ d. d) (λ d. d) IsJobAnswer IsOutcomeOfJob bytes answer.what (found_by words (OfText Complete) bytes answer.what row answer.found) is_done in
       completes bytes text job o read found (subst (λ g. IsDone (status_of g)) is is_done) (answer.text_is ∙ ap text_of is)
 
   pub run_right : IsRow (OfText Run) words → Runs bytes text
   run_right row =
-      let (job, o, read, found, is) = comes_in_text IsDone (λ d. d) (λ d. d) (λ d. d) IsRunAnswer IsOutcomeOfRunJob bytes answer.finding (found_by words (OfText Run) bytes answer.finding row answer.found) is_done in
+      let (job, o, read, found, is) = comes_in_text IsDone (λ d. d) (λ d. d) (λ d. d) IsRunAnswer IsOutcomeOfRunJob bytes answer.what (found_by words (OfText Run) bytes answer.what row answer.found) is_done in
       runs bytes text job o read found (subst (λ g. IsDone (status_of g)) is is_done) (answer.text_is ∙ ap text_of is)
 
   pub compile_gated_right : IsRow (OfText CompileGated) words → CompilesGated bytes text
   compile_gated_right row =
-      let (f, o, read, found, is) = comes_in_text IsDone (λ d. d) (λ d. d) (λ d. d) IsGatedAnswer IsOutcomeOfGated bytes answer.finding (found_by words (OfText CompileGated) bytes answer.finding row answer.found) is_done in
+      let (f, o, read, found, is) = comes_in_text IsDone (λ d. d) (λ d. d) (λ d. d) IsGatedAnswer IsOutcomeOfGated bytes answer.what (found_by words (OfText CompileGated) bytes answer.what row answer.found) is_done in
       compiles_gated bytes text f o read found (answer.text_is ∙ ap text_of is)
 
   pub complete_gated_right : IsRow (OfText CompleteGated) words → CompletesGated bytes text
   complete_gated_right row =
-      let (job, o, read, found, is) = comes_in_text IsDone (λ d. d) (λ d. d) (λ d. d) IsGatedJobAnswer IsOutcomeOfGatedJob bytes answer.finding (found_by words (OfText CompleteGated) bytes answer.finding row answer.found) is_done in
+      let (job, o, read, found, is) = comes_in_text IsDone (λ d. d) (λ d. d) (λ d. d) IsGatedJobAnswer IsOutcomeOfGatedJob bytes answer.what (found_by words (OfText CompleteGated) bytes answer.what row answer.found) is_done in
       completes_gated bytes text job o read found (subst (λ g. IsDone (status_of g)) is is_done) (answer.text_is ∙ ap text_of is)
 
   pub bulk_right : (n : ℕ) → IsRow (Bulk n) words → RunsBulk n text
-  bulk_right n row = bulk_found n bytes text answer.finding (found_by words (Bulk n) bytes answer.finding row answer.found) is_done answer.text_is
+  bulk_right n row = bulk_found n bytes text answer.what (found_by words (Bulk n) bytes answer.what row answer.found) is_done answer.text_is

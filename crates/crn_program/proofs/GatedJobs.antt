@@ -77,7 +77,7 @@ pub tells_completed_gated : (net : Network) (c d : List ℚ) (fs : List Flow) (f
 tells_completed_gated net c d fs front out text fits all run front_is text_is is =
     let ending : d ≡ gated_completed net c = run_end net (gated_completion net c) c d run in
     record {
-      outcome = CompletedGated net c;
+      what = CompletedGated net c;
       found = (refl, refl, fits);
       status_is = refl;
       text_is =
@@ -92,14 +92,14 @@ tells_completed_gated net c d fs front out text fits all run front_is text_is is
 
 pub tells_unfinished_gated : (net : Network) (c : List ℚ) (at : CompletionTooBig) (s : Status) (text : List ℕ) → gated_refusal net c ≡ Some at → s ≡ status_of_outcome (Unfinished at) → text ≡ text_of_outcome (Unfinished at)
     → Tells (IsOutcomeOfGatedCompletion net c) s text
-tells_unfinished_gated net c at s text refused status_is text_is = record { outcome = Unfinished at; found = refused; status_is = status_is; text_is = text_is }
+tells_unfinished_gated net c at s text refused status_is text_is = record { what = Unfinished at; found = refused; status_is = status_is; text_is = text_is }
 
 -- after the segments of a job
 pub tells_gated : (net : Network) (value : ℚ) (xs : List ℚ) (us : List (List Flow)) (p q : Progress) (s : Status) (text : List ℕ) → StablyComputesGated net xs value
     → p.network ≡ net → p.state ≡ start net xs → StepsGo p.network p.state us q.state → AreSegments us → Tells (IsOutcomeOfGatedCompletion net q.state) s text → Tells (IsOutcomeOfGatedSegments net value (start net xs) us) s text
 tells_gated net value xs us p q s text computes net_is state_is leads segments tells = record {
-  outcome = tells.outcome;
-  found = outcome_of_gated net value xs us q.state tells.outcome segments computes (subst (λ a. StepsGo net a us q.state) state_is (subst (λ n. StepsGo n p.state us q.state) net_is leads)) tells.found;
+  what = tells.what;
+  found = outcome_of_gated net value xs us q.state tells.what segments computes (subst (λ a. StepsGo net a us q.state) state_is (subst (λ n. StepsGo n p.state us q.state) net_is leads)) tells.found;
   status_is = tells.status_is;
   text_is = tells.text_is;
 }
@@ -108,7 +108,7 @@ tells_gated net value xs us p q s text computes net_is state_is leads segments t
 pub tells_refused_gated : (net : Network) (value : ℚ) (a : List ℚ) (us : List (List Flow)) (p : Progress) (t : ℕ) (e : StepError) (s : Status) (text : List ℕ) → p.network ≡ net → p.state ≡ a
     → IsRefused p.network p.state us t e → s ≡ status_of_step e → text ≡ refusal (step_words t e) → Tells (IsOutcomeOfGatedSegments net value a us) s text
 tells_refused_gated net value a us p t e s text net_is state_is refused status_is text_is = record {
-  outcome = RefusedSegment t e;
+  what = RefusedSegment t e;
   found = subst (λ a. IsRefused net a us t e) state_is (subst (λ n. IsRefused n p.state us t e) net_is refused);
   status_is = status_is;
   text_is = text_is;
@@ -118,8 +118,8 @@ tells_refused_gated net value a us p t e s text net_is state_is refused status_i
 pub tells_gated_job : (job : PlainGatedJob) (net : Network) (s : Status) (text : List ℕ) → net ≡ gated_layout job.function.variables job.function.forms
     → Tells (IsOutcomeOfGatedSegments net (gated_value job.function.forms job.amounts) (start net job.amounts) job.segments) s text → Tells (IsOutcomeOfGatedJob job) s text
 tells_gated_job job net s text same tells = record {
-  outcome = tells.outcome;
-  found = subst (λ n. IsOutcomeOfGatedSegments n (gated_value job.function.forms job.amounts) (start n job.amounts) job.segments tells.outcome) same tells.found;
+  what = tells.what;
+  found = subst (λ n. IsOutcomeOfGatedSegments n (gated_value job.function.forms job.amounts) (start n job.amounts) job.segments tells.what) same tells.found;
   status_is = tells.status_is;
   text_is = tells.text_is;
 }

@@ -28,19 +28,20 @@ use Rattle.crn_gated.specs.JobGrammar.{PlainGatedJob}
 use Rattle.crn_gated.specs.Layout.{gated_layout}
 use Rattle.crn_gated.proofs.KeptJobs.{text_gated_job}
 use Rattle.crn_gated.proofs.LayoutLaws.{layout_is_valid}
-use Rattle.crn_program.specs.Answer.{Answers, IsFunctionAnswer, IsJobAnswer, IsRunAnswer, IsGatedJobAnswer, IsOutcomeOfFunction, IsOutcomeOfJob, IsOutcomeOfRunJob, IsOutcomeOfGatedJob}
-use Rattle.crn_program.specs.Finding.{Outcome, NotCompiled, RefusedSegment, Unfinished, NoValue, Compiled, Completed, CompletedGated, Ran, status_of, status_of_outcome, status_of_cause, status_of_step, text_of, text_of_outcome, text_of_cause, step_words}
+use Rattle.crn_program.specs.Answer.{Answers, IsOutcomeOfFunction, IsOutcomeOfJob, IsOutcomeOfRunJob, IsOutcomeOfGatedJob}
+use Rattle.crn_program.specs.Texts.{IsFunctionAnswer, IsJobAnswer, IsRunAnswer, IsGatedJobAnswer}
+use Rattle.crn_program.specs.Finding.{Outcome, RefusedFunction, RefusedSegment, Unfinished, NoValue, Compiled, Completed, CompletedGated, Ran, status_of, status_of_outcome, status_of_cause, status_of_step, text_of, text_of_outcome, text_of_cause, step_words}
 use Rattle.crn_program.specs.Refused.{RefusesSegment, RefusesPair, RefusesGap}
 use Rattle.crn_program.specs.Report.{refusal}
 use Rattle.crn_program.specs.Runs.{IsRefused, IsRefusedCompletion, IsOutcomeOfSegments}
 use Rattle.crn_program.specs.Statuses.{IsOfRun}
-use Rattle.crn_program.specs.Value.{IsNetworkOf, IsNotCompiled}
+use Rattle.crn_program.specs.Value.{IsNetworkOf, IsRefusedFunction}
 use Rattle.crn_program.specs.Words.{IsRow}
 use Rattle.crn_program.specs.declared.words.Command.TheVariants.{OfText}
 use Rattle.crn_program.specs.declared.words.TextCommand.TheVariants.{Compile, Complete, Run, CompleteGated}
 use Rattle.crn_program.specs.declared.status.Status.{Status}
 use Rattle.crn_program.specs.declared.status.Status.TheVariants as status
-use Rattle.crn_program.proofs.Correctness.{comes_in_text}
+use Rattle.crn_program.proofs.Done.{comes_in_text}
 use Rattle.crn_program.proofs.Endings.{found_by, of_segments}
 
 -- ---- the three statuses
@@ -78,13 +79,13 @@ by_pieces k (ByFormula formula) e other is = absurd (other (subst IsMemory (sym 
 by_pieces k (ByPieces ps) e other is = (ps, refl, is)
 by_pieces k (ByLeast forms) e other is = absurd (other (subst IsMemory (sym is) tt))
 
-pair_refused : (f : PlainFunction) (k : ℕ) (e : CompileError) (text : List ℕ) → IsNotCompiled f k e → IsDisagreement (status_of_cause e) → text ≡ text_of_cause k e → RefusesPair f text
+pair_refused : (f : PlainFunction) (k : ℕ) (e : CompileError) (text : List ℕ) → IsRefusedFunction f k e → IsDisagreement (status_of_cause e) → text ≡ text_of_cause k e → RefusesPair f text
 pair_refused f k (cause.Disagree i j p) text none is text_is =
     let (ps, given, refused) = by_pieces f.variables f.kind (cause.Disagree i j p) (λ m. m) none.refused in
     record { pieces = ps; given = given; first = i; second = j; point = p; differ = refused.1.differ; written = subst (λ v. text ≡ text_of_cause v (cause.Disagree i j p)) none.variables text_is }
 pair_refused f k _ text none is text_is = absurd is
 
-gap_refused : (f : PlainFunction) (k : ℕ) (e : CompileError) (text : List ℕ) → IsNotCompiled f k e → IsNotCovered (status_of_cause e) → text ≡ text_of_cause k e → RefusesGap f text
+gap_refused : (f : PlainFunction) (k : ℕ) (e : CompileError) (text : List ℕ) → IsRefusedFunction f k e → IsNotCovered (status_of_cause e) → text ≡ text_of_cause k e → RefusesGap f text
 gap_refused f k (cause.NotCovered p) text none is text_is =
     let (ps, given, refused) = by_pieces f.variables f.kind (cause.NotCovered p) (λ m. m) none.refused in
     record {
@@ -98,22 +99,22 @@ gap_refused f k (cause.NotCovered p) text none is text_is =
 gap_refused f k _ text none is text_is = absurd is
 
 pair_of_function : (f : PlainFunction) (o : Outcome) (text : List ℕ) → IsOutcomeOfFunction f o → IsDisagreement (status_of_outcome o) → text ≡ text_of_outcome o → RefusesPair f text
-pair_of_function f (NotCompiled k e) text found is text_is = pair_refused f k e text found is text_is
+pair_of_function f (RefusedFunction k e) text found is text_is = pair_refused f k e text found is text_is
 pair_of_function f (Compiled net) text found is text_is = absurd is
 pair_of_function f _ text found is text_is = absurd found
 
 gap_of_function : (f : PlainFunction) (o : Outcome) (text : List ℕ) → IsOutcomeOfFunction f o → IsNotCovered (status_of_outcome o) → text ≡ text_of_outcome o → RefusesGap f text
-gap_of_function f (NotCompiled k e) text found is text_is = gap_refused f k e text found is text_is
+gap_of_function f (RefusedFunction k e) text found is text_is = gap_refused f k e text found is text_is
 gap_of_function f (Compiled net) text found is text_is = absurd is
 gap_of_function f _ text found is text_is = absurd found
 
 pair_of_job : (job : PlainJob) (o : Outcome) (text : List ℕ) → IsOutcomeOfJob job o → IsDisagreement (status_of_outcome o) → text ≡ text_of_outcome o → RefusesPair job.function text
-pair_of_job job (NotCompiled k e) text found is text_is = pair_refused job.function k e text found is text_is
+pair_of_job job (RefusedFunction k e) text found is text_is = pair_refused job.function k e text found is text_is
 pair_of_job job o text found is text_is =
     absurd (no_run IsDisagreement (λ p. p) (λ p. p) (λ p. p) (status_of_outcome o) (of_segments found.0 found.1 (start found.0 job.amounts) job.segments o found.4) is)
 
 gap_of_job : (job : PlainJob) (o : Outcome) (text : List ℕ) → IsOutcomeOfJob job o → IsNotCovered (status_of_outcome o) → text ≡ text_of_outcome o → RefusesGap job.function text
-gap_of_job job (NotCompiled k e) text found is text_is = gap_refused job.function k e text found is text_is
+gap_of_job job (RefusedFunction k e) text found is text_is = gap_refused job.function k e text found is text_is
 gap_of_job job o text found is text_is =
     absurd (no_run IsNotCovered (λ p. p) (λ p. p) (λ p. p) (status_of_outcome o) (of_segments found.0 found.1 (start found.0 job.amounts) job.segments o found.4) is)
 
@@ -177,7 +178,7 @@ abbrev RefusesInNetwork : PlainJob → List ℕ → Type 0
 RefusesInNetwork job text = (net : Network) × IsNetworkOf job.function net × RefusesSegment net (start net job.amounts) job.segments text
 
 segment_of_job : (bytes text : List ℕ) (job : PlainJob) (o : Outcome) → IsJobAnswer bytes (grammar.Read job) → IsOutcomeOfJob job o → IsIllegal (status_of_outcome o) → text ≡ text_of_outcome o → RefusesInNetwork job text
-segment_of_job bytes text job (NotCompiled k e) read found is text_is = absurd (not_of_cause e is)
+segment_of_job bytes text job (RefusedFunction k e) read found is text_is = absurd (not_of_cause e is)
 segment_of_job bytes text job o read found is text_is =
     let (t, e, first, illegal, same) = of_segment found.0 found.1 (start found.0 job.amounts) job.segments o found.4 is in
     let fits = text_job (plain_lines bytes) job read.0 read.1 in
@@ -215,7 +216,7 @@ module _ (words : List (List ℕ)) (bytes text : List ℕ) (s : Status) (answer 
   segment_right row told_so =
       let illegal = subst IsIllegal (sym told_so ∙ answer.status_is) tt in
       let (job, o, read, found, is) =
-      comes_in_text IsIllegal (λ p. p) (λ p. p) (λ p. p) IsJobAnswer IsOutcomeOfJob bytes answer.finding (found_by words (OfText Complete) bytes answer.finding row answer.found) illegal in
+      comes_in_text IsIllegal (λ p. p) (λ p. p) (λ p. p) IsJobAnswer IsOutcomeOfJob bytes answer.what (found_by words (OfText Complete) bytes answer.what row answer.found) illegal in
       let (net, network, refuses) = segment_of_job bytes text job o read found (subst (λ g. IsIllegal (status_of g)) is illegal) (answer.text_is ∙ ap text_of is) in
       (job, read, net, network, refuses)
 
@@ -223,7 +224,7 @@ module _ (words : List (List ℕ)) (bytes text : List ℕ) (s : Status) (answer 
   run_segment_right row told_so =
       let illegal = subst IsIllegal (sym told_so ∙ answer.status_is) tt in
       let (job, o, read, found, is) =
-      comes_in_text IsIllegal (λ p. p) (λ p. p) (λ p. p) IsRunAnswer IsOutcomeOfRunJob bytes answer.finding (found_by words (OfText Run) bytes answer.finding row answer.found) illegal in
+      comes_in_text IsIllegal (λ p. p) (λ p. p) (λ p. p) IsRunAnswer IsOutcomeOfRunJob bytes answer.what (found_by words (OfText Run) bytes answer.what row answer.found) illegal in
       (job, read, segment_of_run bytes text job o read found (subst (λ g. IsIllegal (status_of g)) is illegal) (answer.text_is ∙ ap text_of is))
 
   pub gated_segment_right : IsRow (OfText CompleteGated) words → s ≡ status.Illegal
@@ -232,7 +233,7 @@ module _ (words : List (List ℕ)) (bytes text : List ℕ) (s : Status) (answer 
   gated_segment_right row told_so =
       let illegal = subst IsIllegal (sym told_so ∙ answer.status_is) tt in
       let (job, o, read, found, is) =
-      comes_in_text IsIllegal (λ p. p) (λ p. p) (λ p. p) IsGatedJobAnswer IsOutcomeOfGatedJob bytes answer.finding (found_by words (OfText CompleteGated) bytes answer.finding row answer.found) illegal in
+      comes_in_text IsIllegal (λ p. p) (λ p. p) (λ p. p) IsGatedJobAnswer IsOutcomeOfGatedJob bytes answer.what (found_by words (OfText CompleteGated) bytes answer.what row answer.found) illegal in
       let (net, network, refuses) = segment_of_gated_job bytes text job o read found (subst (λ g. IsIllegal (status_of g)) is illegal) (answer.text_is ∙ ap text_of is) in
       (job, read, net, network, refuses)
 
@@ -240,26 +241,26 @@ module _ (words : List (List ℕ)) (bytes text : List ℕ) (s : Status) (answer 
   pair_right row told_so =
       let disagree = subst IsDisagreement (sym told_so ∙ answer.status_is) tt in
       let (f, o, read, found, is) =
-      comes_in_text IsDisagreement (λ p. p) (λ p. p) (λ p. p) IsFunctionAnswer IsOutcomeOfFunction bytes answer.finding (found_by words (OfText Compile) bytes answer.finding row answer.found) disagree in
+      comes_in_text IsDisagreement (λ p. p) (λ p. p) (λ p. p) IsFunctionAnswer IsOutcomeOfFunction bytes answer.what (found_by words (OfText Compile) bytes answer.what row answer.found) disagree in
       (f, read, pair_of_function f o text found (subst (λ g. IsDisagreement (status_of g)) is disagree) (answer.text_is ∙ ap text_of is))
 
   pub job_pair_right : IsRow (OfText Complete) words → s ≡ status.Disagree → (job : PlainJob) × IsJobAnswer bytes (grammar.Read job) × RefusesPair job.function text
   job_pair_right row told_so =
       let disagree = subst IsDisagreement (sym told_so ∙ answer.status_is) tt in
       let (job, o, read, found, is) =
-      comes_in_text IsDisagreement (λ p. p) (λ p. p) (λ p. p) IsJobAnswer IsOutcomeOfJob bytes answer.finding (found_by words (OfText Complete) bytes answer.finding row answer.found) disagree in
+      comes_in_text IsDisagreement (λ p. p) (λ p. p) (λ p. p) IsJobAnswer IsOutcomeOfJob bytes answer.what (found_by words (OfText Complete) bytes answer.what row answer.found) disagree in
       (job, read, pair_of_job job o text found (subst (λ g. IsDisagreement (status_of g)) is disagree) (answer.text_is ∙ ap text_of is))
 
   pub gap_right : IsRow (OfText Compile) words → s ≡ status.NotCovered → (f : PlainFunction) × IsFunctionAnswer bytes (grammar.Read f) × RefusesGap f text
   gap_right row told_so =
       let gap = subst IsNotCovered (sym told_so ∙ answer.status_is) tt in
       let (f, o, read, found, is) =
-      comes_in_text IsNotCovered (λ p. p) (λ p. p) (λ p. p) IsFunctionAnswer IsOutcomeOfFunction bytes answer.finding (found_by words (OfText Compile) bytes answer.finding row answer.found) gap in
+      comes_in_text IsNotCovered (λ p. p) (λ p. p) (λ p. p) IsFunctionAnswer IsOutcomeOfFunction bytes answer.what (found_by words (OfText Compile) bytes answer.what row answer.found) gap in
       (f, read, gap_of_function f o text found (subst (λ g. IsNotCovered (status_of g)) is gap) (answer.text_is ∙ ap text_of is))
 
   pub job_gap_right : IsRow (OfText Complete) words → s ≡ status.NotCovered → (job : PlainJob) × IsJobAnswer bytes (grammar.Read job) × RefusesGap job.function text
   job_gap_right row told_so =
       let gap = subst IsNotCovered (sym told_so ∙ answer.status_is) tt in
       let (job, o, read, found, is) =
-      comes_in_text IsNotCovered (λ p. p) (λ p. p) (λ p. p) IsJobAnswer IsOutcomeOfJob bytes answer.finding (found_by words (OfText Complete) bytes answer.finding row answer.found) gap in
+      comes_in_text IsNotCovered (λ p. p) (λ p. p) (λ p. p) IsJobAnswer IsOutcomeOfJob bytes answer.what (found_by words (OfText Complete) bytes answer.what row answer.found) gap in
       (job, read, gap_of_job job o text found (subst (λ g. IsNotCovered (status_of g)) is gap) (answer.text_is ∙ ap text_of is))

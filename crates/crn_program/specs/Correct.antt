@@ -1,13 +1,18 @@
 -- The theorem on one page: what each command that runs does, from the bytes that come to the bytes that are written. A function has a value at a point. A
 -- network has states, and runs: segments that are legal in turn. A start encodes a point by amounts of the inputs.
-use Rattle.std.specs.Prelude.{ℕ, ◌≡◌, ◌≤◌, List, length, codes, ◌++◌}
+use Rattle.std.specs.Prelude.{ℕ, ◌≡◌, ◌≤◌, false, List, length, codes, ◌++◌}
+use Rattle.std.specs.Fmt.{decimal}
 use Rattle.crn_fraction.specs.Rational.{ℚ, ◌+ℚ◌}
 use Rattle.crn_fraction.specs.Text.{fraction_text}
 use Rattle.crn_grammar.specs.Table.{Read}
 use Rattle.crn_formula.specs.Pieces.{Piece, Covers, Agree}
-use Rattle.crn_formula.specs.Domains.{domain_for}
-use Rattle.crn_formula.specs.Functions.{ByPieces}
+use Rattle.crn_formula.specs.Domains.{domain_for, orthant}
+use Rattle.crn_formula.specs.Functions.{ByPieces, is_affine}
+use Rattle.crn_superadd.specs.Superadditive.{IsSuperadditive, IsNonnegative}
 use Rattle.crn_function_text.specs.Grammar.{PlainFunction}
+use Rattle.crn_function_text.specs.Two.{TwoFunctions}
+use Rattle.crn_cert_text.specs.Proofs.{Line, IsProof}
+use Rattle.crn_cert_text.specs.ProvedText.{PlainProved, proved_text, printed_proof}
 use Rattle.crn_net.specs.Network.{Network, AreAmounts, AreNotNegative, Run, IsSettled, StablyComputes, start, encoded, completion, completed, output}
 use Rattle.crn_net.specs.Totals.{total}
 use Rattle.crn_net.specs.declared.Flow.{Flow}
@@ -23,7 +28,7 @@ use Rattle.crn_gated.specs.Grammar.{PlainGated}
 use Rattle.crn_gated.specs.JobGrammar.{PlainGatedJob}
 use Rattle.crn_gated.specs.Layout.{gated_layout}
 use Rattle.crn_bulk.specs.Generator.{bulk_job, bulk_number}
-use Rattle.crn_program.specs.Answer.{IsFunctionAnswer, IsNetworkAnswer, IsJobAnswer, IsRunAnswer, IsGatedAnswer, IsGatedJobAnswer}
+use Rattle.crn_program.specs.Texts.{IsFunctionAnswer, IsNetworkAnswer, IsJobAnswer, IsRunAnswer, IsProvedAnswer, IsTwoAnswer, IsGatedAnswer, IsGatedJobAnswer}
 use Rattle.crn_program.specs.Bulk.{halves}
 use Rattle.crn_program.specs.Report.{EndsWith, line, completion_report, run_report, bulk_report}
 use Rattle.crn_program.specs.Value.{IsValue, IsNetworkOf}
@@ -93,6 +98,59 @@ pub record Runs (bytes text : List ℕ) : Type 0 where
   pub leads : Run job.network job.state job.segments state
   pub written : text ≡ run_report job.network state
   pub ends : EndsWithValue (output job.network state) text
+
+-- `prove`: the bytes are the text of a function by pieces that cover its domain and agree on it. What is written is the text of this function and of a proof of that, and
+-- reads back as both.
+pub record Proves (bytes text : List ℕ) : Type 0 where
+  pub function : PlainFunction
+  pub pieces : List Piece
+  pub lines : List Line
+  pub read : IsFunctionAnswer bytes (Read function)
+  pub given : function.kind ≡ ByPieces pieces
+  pub covers : Covers (domain_for function.variables (ByPieces pieces)) pieces
+  pub agree : Agree (domain_for function.variables (ByPieces pieces)) pieces
+  pub proof : IsProof (domain_for function.variables (ByPieces pieces)) pieces lines
+  pub written : text ≡ proved_text function lines
+  pub reads_back : IsProvedAnswer text (Read (printed_proof function lines))
+
+-- `check`: the bytes are the text of a function by pieces and of a proof that they cover its domain and agree on it, and so they do. The number of its lines is written.
+pub record Checks (bytes text : List ℕ) : Type 0 where
+  pub proved : PlainProved
+  pub pieces : List Piece
+  pub read : IsProvedAnswer bytes (Read proved)
+  pub given : proved.function.kind ≡ ByPieces pieces
+  pub proof : IsProof (domain_for proved.function.variables (ByPieces pieces)) pieces proved.proof.lines
+  pub covers : Covers (domain_for proved.function.variables (ByPieces pieces)) pieces
+  pub agree : Agree (domain_for proved.function.variables (ByPieces pieces)) pieces
+  pub written : text ≡ line (codes "checked lines " ++ decimal (length proved.proof.lines))
+
+-- `same`: the bytes are the text of two functions of one number of variables, and at every point both have the same value.
+pub record Compares (bytes text : List ℕ) : Type 0 where
+  pub both : TwoFunctions
+  pub read : IsTwoAnswer bytes (Read both)
+  pub variables : both.first.variables ≡ both.second.variables
+  pub same : (x : List ℚ) → length x ≡ both.first.variables → (v : ℚ) × IsValue both.first x v × IsValue both.second x v
+  pub written : text ≡ line (codes "same")
+
+-- `direct`: the bytes are the text of a function by pieces without constants. On the points without a negative number the pieces cover and agree, and the function is
+-- superadditive and nowhere negative. A network of single rails is written that stably computes its value at the amounts, from every start. What is written reads back as
+-- this network.
+pub record CompilesDirectly (bytes text : List ℕ) : Type 0 where
+  pub function : PlainFunction
+  pub pieces : List Piece
+  pub net : Network
+  pub read : IsFunctionAnswer bytes (Read function)
+  pub given : function.kind ≡ ByPieces pieces
+  pub linear : is_affine function.variables function.kind ≡ false
+  pub covers : Covers (orthant function.variables) pieces
+  pub agree : Agree (orthant function.variables) pieces
+  pub superadditive : IsSuperadditive (orthant function.variables) pieces
+  pub nonnegative : IsNonnegative (orthant function.variables) pieces
+  pub direct : net.rails ≡ Direct
+  pub starts : (x : List ℚ) → length x ≡ function.variables → AreNotNegative x → AreAmounts net x
+  pub computes : (x : List ℚ) → AreAmounts net x → (v : ℚ) × IsValue function x v × StablyComputes net x v
+  pub written : text ≡ network_text net
+  pub reads_back : IsNetworkAnswer text (Read net)
 
 -- `compile-gated`: the bytes are the text of a gated function, the least of forms of which some count as 0 while a variable is 0. A network is written:
 -- from every start, whatever run comes first, the gated completion after it is a run to the value there, which no further run changes. What is written reads back

@@ -7,10 +7,12 @@ ghost use Rattle.crn_gated.specs.Computes.{StablyComputesGated};
 ghost use Rattle.crn_gated.specs.Forms.{AreFewGatedForms};
 ghost use Rattle.crn_gated.specs.Reading.{gated_of};
 ghost use Rattle.crn_gated.specs.Reading.{gated_job_of};
-ghost use Rattle.crn_program.specs.Answer.{Says, IsGatedAnswer, IsGatedJobAnswer, IsOutcomeOfGated, IsOutcomeOfGatedJob, IsFoundInText, text_limit};
+ghost use Rattle.crn_program.specs.Answer.{Says, IsOutcomeOfGated, IsOutcomeOfGatedJob, IsFoundInText};
+ghost use Rattle.crn_program.specs.Texts.{IsGatedAnswer, IsGatedJobAnswer};
 ghost use Rattle.crn_program.specs.Ending.{Tells};
 ghost use Rattle.crn_program.specs.Gated.{IsOutcomeOfGatedCompletion, IsOutcomeOfGatedSegments};
 ghost use Rattle.crn_program.specs.Report.{OutputFits};
+ghost use Rattle.crn_program.specs.Words.{text_limit};
 
 use crate::complete::{Unfinished, refused_completion};
 use crate::reading::refused_lines;
@@ -31,7 +33,7 @@ use std::alloc::{AllocError, Global};
 pub(crate) fn compile_gated(alloc: Global, bytes: &[u8]) -> Result<Reply, AllocError>
     requires { length bytes.now ≤ text_limit }
     ensures { IfOk result (λ reply. Says
-        (IsFoundInText IsGatedAnswer IsOutcomeOfGated bytes.now) reply.status reply.text.items) }
+        (IsFoundInText text_limit IsGatedAnswer IsOutcomeOfGated bytes.now) reply.status reply.text.items) }
 {
     match read_gated(alloc, bytes) {
         Ok(function) => function_answer(alloc, &function),
@@ -56,7 +58,7 @@ fn function_answer(alloc: Global, function: &GatedFunction) -> Result<Reply, All
 pub(crate) fn complete_gated(alloc: Global, bytes: &[u8]) -> Result<Reply, AllocError>
     requires { length bytes.now ≤ text_limit }
     ensures { IfOk result (λ reply. Says
-        (IsFoundInText IsGatedJobAnswer IsOutcomeOfGatedJob bytes.now) reply.status reply.text.items) }
+        (IsFoundInText text_limit IsGatedJobAnswer IsOutcomeOfGatedJob bytes.now) reply.status reply.text.items) }
 {
     match read_gated_job(alloc, bytes) {
         Ok(job) => job_answer(alloc, &job),

@@ -7,6 +7,10 @@ mod compiled_functions;
 #[cfg(test)]
 mod max_min_formulas;
 #[cfg(test)]
+mod normal_forms;
+#[cfg(test)]
+mod same_functions;
+#[cfg(test)]
 mod shared;
 #[cfg(test)]
 mod superadditive;

@@ -1,6 +1,7 @@
 use Rattle.std.proofs.lemmas.Result.{IfOk-weaker}
 use Rattle.crn_gated.specs.Reading.{gated_of}
-use Rattle.crn_program.specs.Answer.{IsGatedAnswer, IsOutcomeOfGated}
+use Rattle.crn_program.specs.Answer.{IsOutcomeOfGated}
+use Rattle.crn_program.specs.Texts.{IsGatedAnswer}
 use Rattle.crn_program.proofs.Found.{says_text, says_line_of_text}
 use Rattle.crn_program.proofs.gated.compile_gated.Goals as goal
 

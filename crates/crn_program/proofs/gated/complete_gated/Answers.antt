@@ -1,6 +1,7 @@
 use Rattle.std.proofs.lemmas.Result.{IfOk-weaker}
 use Rattle.crn_gated.specs.Reading.{gated_job_of}
-use Rattle.crn_program.specs.Answer.{IsGatedJobAnswer, IsOutcomeOfGatedJob}
+use Rattle.crn_program.specs.Answer.{IsOutcomeOfGatedJob}
+use Rattle.crn_program.specs.Texts.{IsGatedJobAnswer}
 use Rattle.crn_program.proofs.Found.{says_text, says_line_of_text}
 use Rattle.crn_program.proofs.gated.complete_gated.Goals as goal
 

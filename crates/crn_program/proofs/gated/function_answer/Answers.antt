@@ -1,6 +1,6 @@
 use Rattle.std.proofs.Common.{subst, refl}
 use Rattle.crn_grammar.specs.Table.{Read}
-use Rattle.crn_program.specs.Answer.{IsNetworkAnswer}
+use Rattle.crn_program.specs.Texts.{IsNetworkAnswer}
 use Rattle.crn_program.specs.Finding.{Compiled}
 use Rattle.crn_program.proofs.gated.function_answer.Goals as goal
 
@@ -8,7 +8,7 @@ pub returns : goal.returns
 returns c =
     let text = c.in_ok-text.ensures.text in
     record {
-      outcome = Compiled c.in_ok-network.network;
+      what = Compiled c.in_ok-network.network;
       found = record {
         network = c.in_ok-network.ensures.layout;
         computes = c.in_ok-network.ensures.computes;

@@ -1,0 +1,16 @@
+use Rattle.std.proofs.Common.{sym, subst}
+use Rattle.crn_grammar.specs.Reading.{Gives}
+use Rattle.crn_grammar.proofs.Turns.{passed_on}
+use Rattle.crn_function_text.specs.Reading.{function_of}
+use Rattle.crn_cert_text.specs.ProvedText.{proved_answer, proved_of}
+use Rattle.crn_cert_text.proofs.ReadTexts.{text_read, text_refused}
+use Rattle.crn_cert_text.proofs.proved.read_text.Goals as goal
+
+pub returns-clause-answer : goal.returns-clause-answer
+returns-clause-answer c =
+    subst (Gives proved_of c.read_rest.result) (sym (text_read c.args.bytes.now (function_of c.in_ok-function.function) c.in_ok-function.next c.in_ok-function.ensures.answer)) c.read_rest.ensures.answer
+
+pub returns-in_err-function-clause-answer : goal.returns-in_err-function-clause-answer
+returns-in_err-function-clause-answer c =
+    let e = c.in_err-function.field-0.0 in
+    passed_on proved_of c.from_residual-in_err-function.result e (proved_answer c.args.bytes.now) c.from_residual-in_err-function.ensures.1 (text_refused c.args.bytes.now e c.in_err-function.ensures.answer)

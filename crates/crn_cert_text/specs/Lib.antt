@@ -1,0 +1,9 @@
+pub mod Proofs
+pub mod Walks
+pub mod Making
+pub mod Views
+pub mod Answers
+pub mod Words
+pub mod Text
+pub mod ProvedText
+pub mod TextAnswers

@@ -1,0 +1,4 @@
+pub mod Equal
+pub mod Answers
+pub mod Functions
+pub mod Alike
