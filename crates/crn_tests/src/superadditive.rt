@@ -1,6 +1,8 @@
 //! Tests of crn_superadd, and of the direct networks of crn_compile.
 
-ghost use Rattle.std.specs.Prelude.{◌<◌, length};
+ghost use Rattle.std.specs.Prelude.{◌≡◌, ◌<◌, false, length, IfOk};
+ghost use Rattle.crn_formula.specs.Functions.{IsGivenByPieces, is_affine};
+ghost use Rattle.crn_formula.specs.Views.{kind_of};
 
 use crate::shared::{LEAST_OF_TWO_FORMS, printed};
 use crn_compile::{CompileError, DirectError, compile_superadditive};
@@ -15,7 +17,10 @@ use std::fmt::Write;
 use std::test::Fail;
 
 // The pieces of a text without constants.
-fn linear_pieces(alloc: Global, text: &str) -> Result<Function, Fail> {
+fn linear_pieces(alloc: Global, text: &str) -> Result<Function, Fail>
+    ensures pieces { IfOk result (λ f. IsGivenByPieces (kind_of f.kind)) }
+    ensures linear { IfOk result (λ f. is_affine f.variables (kind_of f.kind) ≡ false) }
+{
     let function = read_function(alloc, text.as_bytes())?;
     if !matches!(function.kind(), FunctionKind::Pieces(_)) || function.is_affine() {
         Err("it is not given by pieces without constants")?
@@ -158,18 +163,23 @@ fn falls_short(first: &Point, times: u128, second: &Point) -> Option<bool> {
     Some(at_sum < at_first.checked_add(at_second)?)
 }
 
+fn refutes_greatest(error: &DirectError) -> Option<bool> {
+    match error {
+        DirectError::NotSuperadditive {
+            first,
+            times,
+            second,
+        } => falls_short(first, *times, second),
+        _ => None,
+    }
+}
+
 #[test]
 fn points_that_refute(rt: HostRuntime) -> Result<(), Fail> {
     let function = linear_pieces(rt.alloc(), GREATEST_OF_TWO)?;
     match compile_superadditive(rt.alloc(), function) {
-        Err(
-            DirectError::NotSuperadditive {
-                first,
-                times,
-                second,
-            },
-        ) => assert!(rt; falls_short(&first, times, &second) == Some(true)),
-        _ => Err("it was not refused so")?,
+        Ok(_) => Err("it was not refused")?,
+        Err(error) => assert!(rt; refutes_greatest(&error) == Some(true)),
     }
     Ok(())
 }
