@@ -94,7 +94,7 @@ value max(-1, min(x1, 2))
 }
 
 // The numbers of the point at which two functions of one variable or two differ.
-fn difference(answer: Result<(), SameError>) -> Option<(i64, i64)> {
+fn difference(answer: &Result<(), SameError>) -> Option<(i64, i64)> {
     let Err(SameError::Differ { point }) = answer else {
         return None;
     };
@@ -115,7 +115,7 @@ fn differences(rt: HostRuntime) -> Result<(), Fail> {
         (2, "max(x1, x2)", "x1", (0, 1)),
     ] {
         let answer = answer_of(rt.alloc(), variables, first, second)?;
-        assert!(rt; difference(answer) == Some(point), "{first}");
+        assert!(rt; difference(&answer) == Some(point), "{first}");
     }
     Ok(())
 }
