@@ -1,5 +1,5 @@
 -- Pieces that were checked are refused for a limit of solving alone.
-use Rattle.std.proofs.Common.{ℕ, List, length, refl, arith}
+use Rattle.std.proofs.Common.{List, length, refl, arith}
 use Rattle.std.specs.Prelude.{◌≢◌}
 use Rattle.crn_formula.specs.Pieces.{Piece, Domain}
 use Rattle.crn_pieces.specs.Pairs.{pairs_of}

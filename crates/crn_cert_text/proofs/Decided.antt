@@ -1,5 +1,5 @@
 -- Lines are accepted, or rejected for a cause; and so is a text.
-use Rattle.std.proofs.Common.{◌≡◌, ◌⊎◌, inl, inr, ⊎_elim, ℕ, ◌+◌, ◌<◌, List, [], ◌∷◌, ◌++◌, length, get_or, refl, sym, ap, ap₂, ◌∙◌, subst}
+use Rattle.std.proofs.Common.{◌≡◌, ◌⊎◌, inl, inr, ℕ, ◌+◌, ◌<◌, List, length, refl, sym, ap, ap₂, ◌∙◌, subst}
 use Rattle.std.specs.Prelude.{All, ◌≢◌}
 use Rattle.crn_token.specs.declared.Counted.{Counted}
 use Rattle.crn_token.specs.Plain.{end_of}
@@ -16,7 +16,7 @@ use Rattle.crn_cert_text.specs.declared.VerifyError.{VerifyError}
 use Rattle.crn_cert_text.specs.declared.VerifyError.TheVariants.{BigCondition, BigDifference, NotProved, Memory}
 use Rattle.crn_cert_text.specs.declared.checking.CheckError.{CheckError}
 use Rattle.crn_cert_text.specs.declared.checking.CheckError.TheVariants as check
-use Rattle.crn_cert_text.specs.Proofs.{Line, start, IsProof, IsFirstUnfit}
+use Rattle.crn_cert_text.specs.Proofs.{Line, start, IsFirstUnfit}
 use Rattle.crn_cert_text.specs.Answers.{IsAccepted, IsRejected}
 use Rattle.crn_cert_text.specs.ProvedText.{PlainProved, proved_answer}
 use Rattle.crn_cert_text.specs.TextAnswers.{pieces_of_text, domain_of_text, IsTextOf, IsPiecesText, IsAcceptedText, IsRefusedText, unproved_of}

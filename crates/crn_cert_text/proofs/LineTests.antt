@@ -1,16 +1,16 @@
 -- What can be told of lines: whether one fits its place, and which is the first that does not.
-use Rattle.std.proofs.Common.{◌≡◌, ◌⊎◌, inl, inr, ⊎_elim, ℕ, zero, suc, ◌+◌, ◌<◌, ◌≤◌, ◌^◌, Bool, true, false, List, [], ◌∷◌, ◌++◌, length, get_or, refl, sym, ap, ◌∙◌, subst, arith}
+use Rattle.std.proofs.Common.{◌≡◌, ◌⊎◌, inl, inr, ⊎_elim, ℕ, zero, suc, ◌<◌, ◌≤◌, ◌^◌, Bool, true, false, List, [], ◌∷◌, ◌++◌, length, get_or, refl, sym, ap, subst, arith}
 use Rattle.std.specs.Prelude.{ℤ, pos, negsuc, ◌≤ℤ◌, ◌<ℤ◌, unsigned_abs, All, ◌≢◌, IsTrue}
 use Rattle.std.proofs.lemmas.Int.{ints}
-use Rattle.std.proofs.lemmas.Bool.{cases_eq, cases_lt, cases_Bool}
+use Rattle.std.proofs.lemmas.Bool.{cases_eq, cases_lt}
 use Rattle.std.proofs.lemmas.List.Elements.{All-nil, All-cons}
 use Rattle.crn_fraction.specs.Rational.{ℚ}
 use Rattle.crn_linear.specs.Rows.{Row, IsSmall, AreSmall, dot}
 use Rattle.crn_linear.specs.Cleared.{cleared}
 use Rattle.crn_farkas.specs.Systems.{System, no_row, column, HasStrict, IsCertificate}
 use Rattle.crn_formula.specs.Pieces.{Piece, Domain}
-use Rattle.crn_pieces.specs.Systems.{rows_of, cover_system}
-use Rattle.crn_pieces.specs.Pairs.{pairs_of, IsFirstWithout}
+use Rattle.crn_pieces.specs.Systems.{cover_system}
+use Rattle.crn_pieces.specs.Pairs.{IsFirstWithout}
 use Rattle.crn_pieces.specs.Answers.{Clears, DoConditionsClear, DoesDifferenceClear}
 use Rattle.crn_pieces.proofs.ClearSteps.{not_all}
 use Rattle.crn_cert_text.specs.Proofs.{Line, pair, close, split, IsProofOf, Question, AnswersPair, Place, asking, part, ended, Fits, after_line, FitInTurn, after_lines, Stops}

@@ -1,20 +1,19 @@
 -- Pieces that were checked have a proof, or elimination meets a limit on a system that may be asked.
-use Rattle.std.proofs.Common.{◌≡◌, ◌⊎◌, inl, inr, ⊎_elim, ℕ, zero, suc, ◌+◌, ◌<◌, ◌≤◌, List, [], ◌∷◌, ◌++◌, length, get_or, Result, Ok, Err, refl, sym, ap, ◌∙◌, subst, arith}
+use Rattle.std.proofs.Common.{◌≡◌, ◌⊎◌, inl, inr, ⊎_elim, ℕ, zero, suc, ◌+◌, ◌<◌, List, [], ◌∷◌, ◌++◌, length, Result, Ok, Err, refl, sym, ◌∙◌, subst, arith}
 use Rattle.std.specs.Prelude.{ℤ, All, ◌≢◌}
 use Rattle.std.specs.List.{flat_map}
 use Rattle.std.proofs.lemmas.Bool.{cases_eq}
 use Rattle.std.proofs.lemmas.List.{append_assoc, length-map, length_push}
 use Rattle.std.proofs.lemmas.List.Elements.{All-head}
 use Rattle.crn_linear.specs.Rows.{Row}
-use Rattle.crn_farkas.specs.Systems.{System, IsRectangular, IsPointOf, HasPoint}
+use Rattle.crn_farkas.specs.Systems.{System, IsRectangular, HasPoint}
 use Rattle.crn_feasible.specs.Elimination.{Stop, refuted, passes, too_many, elimination}
 use Rattle.crn_feasible.proofs.Points.{full_rows, elimination_meets}
 use Rattle.crn_feasible.proofs.Certificates.{elimination_refutes}
 use Rattle.crn_feasible.proofs.Long.{elimination-long}
 use Rattle.crn_simplex.proofs.Decisions.{Stops, StopsAt}
-use Rattle.crn_formula.specs.Pieces.{Piece, Domain, IsDomain, Agree, Covers, columns_of}
-use Rattle.crn_formula.specs.Functions.{IsPieceOver}
-use Rattle.crn_pieces.specs.Systems.{condition_rows, rows_of, cover_rows, cover_system}
+use Rattle.crn_formula.specs.Pieces.{Piece, Domain, IsDomain, columns_of}
+use Rattle.crn_pieces.specs.Systems.{condition_rows, rows_of, cover_system}
 use Rattle.crn_pieces.specs.Choices.{AreChoices, IsFull, IsAskedCover}
 use Rattle.crn_pieces.specs.Pairs.{pairs_of, HaveNoPoint, first_above, second_above, IsAskedPair}
 use Rattle.crn_pieces.specs.Answers.{AreChecked, IsAsked}

@@ -1,11 +1,7 @@
 -- The lines of pairs and those of the cover tree together.
-use Rattle.std.proofs.Common.{◌≡◌, ⊎_elim, ℕ, zero, suc, ◌+◌, ◌*◌, ◌<◌, ◌≤◌, List, [], ◌∷◌, ◌++◌, length, take, drop, refl, sym, ap, ◌∙◌, subst, arith}
-use Rattle.std.specs.Prelude.{All, Result, Ok, Err, MatchResult, false}
-use Rattle.std.proofs.lemmas.Bool.{cond_both}
-use Rattle.crn_formula.specs.Functions.{is_affine}
-use Rattle.crn_formula.specs.Domains.{unit, orthant_rows, whole_space, affine_domain, domain_for, IsOnOrthant}
-use Rattle.crn_formula.specs.Views.{Function, IsFunction, kind_of}
-use Rattle.std.proofs.lemmas.List.{append_assoc, take-append-drop, map-append, length-map, length-append, length-take-le, length_push}
+use Rattle.std.proofs.Common.{◌≡◌, ℕ, zero, suc, ◌*◌, ◌<◌, ◌≤◌, List, [], ◌∷◌, ◌++◌, length, take, drop, refl, sym, ap, ◌∙◌, subst, arith}
+use Rattle.std.specs.Prelude.{All, Result, Ok, Err, MatchResult}
+use Rattle.std.proofs.lemmas.List.{append_assoc, take-append-drop, map-append, length-map, length-append, length-take-le}
 use Rattle.crn_linear.specs.Rows.{Row}
 use Rattle.crn_formula.specs.Pieces.{Piece, Domain}
 use Rattle.crn_pieces.specs.Systems.{rows_of}
