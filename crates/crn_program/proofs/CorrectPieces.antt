@@ -174,20 +174,20 @@ module _ (words : List (List ℕ)) (bytes text : List ℕ) (answer : Answers wor
 
   pub prove_right : IsRow (OfText command.Prove) words → Proves bytes text
   prove_right row =
-      let (f, o, read, found, is) = comes_in_text IsDone (λ d. d) (λ d. d) (λ d. d) IsFunctionAnswer IsOutcomeOfProof bytes answer.what (found_by words (OfText command.Prove) bytes answer.what row answer.found) is_done in
+      let (f, o, read, found, is) = comes_in_text _ IsDone (λ d. d) (λ d. d) (λ d. d) IsFunctionAnswer IsOutcomeOfProof bytes answer.what (found_by words (OfText command.Prove) bytes answer.what row answer.found) is_done in
       proves bytes text f o read found (subst (λ g. IsDone (status_of g)) is is_done) (answer.text_is ∙ ap text_of is)
 
   pub check_right : IsRow (OfText command.Check) words → Checks bytes text
   check_right row =
-      let (p, o, read, found, is) = comes_in_text IsDone (λ d. d) (λ d. d) (λ d. d) IsProvedAnswer (IsOutcomeOfCheck (end_of bytes)) bytes answer.what (found_by words (OfText command.Check) bytes answer.what row answer.found) is_done in
+      let (p, o, read, found, is) = comes_in_text _ IsDone (λ d. d) (λ d. d) (λ d. d) IsProvedAnswer (IsOutcomeOfCheck (end_of bytes)) bytes answer.what (found_by words (OfText command.Check) bytes answer.what row answer.found) is_done in
       checks bytes text (end_of bytes) p o read found (subst (λ g. IsDone (status_of g)) is is_done) (answer.text_is ∙ ap text_of is)
 
   pub same_right : IsRow (OfText command.Same) words → Compares bytes text
   same_right row =
-      let (both, o, read, found, is) = comes_in_text IsDone (λ d. d) (λ d. d) (λ d. d) IsTwoAnswer IsOutcomeOfTwo bytes answer.what (found_by words (OfText command.Same) bytes answer.what row answer.found) is_done in
+      let (both, o, read, found, is) = comes_in_text _ IsDone (λ d. d) (λ d. d) (λ d. d) IsTwoAnswer IsOutcomeOfTwo bytes answer.what (found_by words (OfText command.Same) bytes answer.what row answer.found) is_done in
       compares bytes text both o read found (subst (λ g. IsDone (status_of g)) is is_done) (answer.text_is ∙ ap text_of is)
 
   pub direct_right : IsRow (OfText command.Direct) words → CompilesDirectly bytes text
   direct_right row =
-      let (f, o, read, found, is) = comes_in_text IsDone (λ d. d) (λ d. d) (λ d. d) IsFunctionAnswer IsOutcomeOfDirect bytes answer.what (found_by words (OfText command.Direct) bytes answer.what row answer.found) is_done in
+      let (f, o, read, found, is) = comes_in_text _ IsDone (λ d. d) (λ d. d) (λ d. d) IsFunctionAnswer IsOutcomeOfDirect bytes answer.what (found_by words (OfText command.Direct) bytes answer.what row answer.found) is_done in
       compiles_directly bytes text f o read found (subst (λ g. IsDone (status_of g)) is is_done) (answer.text_is ∙ ap text_of is)

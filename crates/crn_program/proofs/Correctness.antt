@@ -220,27 +220,27 @@ module _ (words : List (List ℕ)) (bytes text : List ℕ) (answer : Answers wor
 
   pub compile_right : IsRow (OfText Compile) words → Compiles bytes text
   compile_right row =
-      let (f, o, read, found, is) = comes_in_text IsDone (λ d. d) (λ d. d) (λ d. d) IsFunctionAnswer IsOutcomeOfFunction bytes answer.what (found_by words (OfText Compile) bytes answer.what row answer.found) is_done in
+      let (f, o, read, found, is) = comes_in_text _ IsDone (λ d. d) (λ d. d) (λ d. d) IsFunctionAnswer IsOutcomeOfFunction bytes answer.what (found_by words (OfText Compile) bytes answer.what row answer.found) is_done in
       compiles bytes text f o read found (subst (λ g. IsDone (status_of g)) is is_done) (answer.text_is ∙ ap text_of is)
 
   pub complete_right : IsRow (OfText Complete) words → Completes bytes text
   complete_right row =
-      let (job, o, read, found, is) = comes_in_text IsDone (λ d. d) (λ d. d) (λ d. d) IsJobAnswer IsOutcomeOfJob bytes answer.what (found_by words (OfText Complete) bytes answer.what row answer.found) is_done in
+      let (job, o, read, found, is) = comes_in_text _ IsDone (λ d. d) (λ d. d) (λ d. d) IsJobAnswer IsOutcomeOfJob bytes answer.what (found_by words (OfText Complete) bytes answer.what row answer.found) is_done in
       completes bytes text job o read found (subst (λ g. IsDone (status_of g)) is is_done) (answer.text_is ∙ ap text_of is)
 
   pub run_right : IsRow (OfText Run) words → Runs bytes text
   run_right row =
-      let (job, o, read, found, is) = comes_in_text IsDone (λ d. d) (λ d. d) (λ d. d) IsRunAnswer IsOutcomeOfRunJob bytes answer.what (found_by words (OfText Run) bytes answer.what row answer.found) is_done in
+      let (job, o, read, found, is) = comes_in_text _ IsDone (λ d. d) (λ d. d) (λ d. d) IsRunAnswer IsOutcomeOfRunJob bytes answer.what (found_by words (OfText Run) bytes answer.what row answer.found) is_done in
       runs bytes text job o read found (subst (λ g. IsDone (status_of g)) is is_done) (answer.text_is ∙ ap text_of is)
 
   pub compile_gated_right : IsRow (OfText CompileGated) words → CompilesGated bytes text
   compile_gated_right row =
-      let (f, o, read, found, is) = comes_in_text IsDone (λ d. d) (λ d. d) (λ d. d) IsGatedAnswer IsOutcomeOfGated bytes answer.what (found_by words (OfText CompileGated) bytes answer.what row answer.found) is_done in
+      let (f, o, read, found, is) = comes_in_text _ IsDone (λ d. d) (λ d. d) (λ d. d) IsGatedAnswer IsOutcomeOfGated bytes answer.what (found_by words (OfText CompileGated) bytes answer.what row answer.found) is_done in
       compiles_gated bytes text f o read found (answer.text_is ∙ ap text_of is)
 
   pub complete_gated_right : IsRow (OfText CompleteGated) words → CompletesGated bytes text
   complete_gated_right row =
-      let (job, o, read, found, is) = comes_in_text IsDone (λ d. d) (λ d. d) (λ d. d) IsGatedJobAnswer IsOutcomeOfGatedJob bytes answer.what (found_by words (OfText CompleteGated) bytes answer.what row answer.found) is_done in
+      let (job, o, read, found, is) = comes_in_text _ IsDone (λ d. d) (λ d. d) (λ d. d) IsGatedJobAnswer IsOutcomeOfGatedJob bytes answer.what (found_by words (OfText CompleteGated) bytes answer.what row answer.found) is_done in
       completes_gated bytes text job o read found (subst (λ g. IsDone (status_of g)) is is_done) (answer.text_is ∙ ap text_of is)
 
   pub bulk_right : (n : ℕ) → IsRow (Bulk n) words → RunsBulk n text

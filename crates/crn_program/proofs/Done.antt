@@ -35,10 +35,10 @@ not_done cause.Memory is = is
 abbrev pub ComesOf : {V : Type 0} → (List ℕ → grammar.Answer V (Counted × ℕ) → Type 0) → (V → Outcome → Type 0) → List ℕ → Finding → Type 0
 ComesOf {V} IsRight Found bytes f = (v : V) × (o : Outcome) × IsRight bytes (grammar.Read v) × Found v o × (f ≡ Comes o)
 
-pub comes_in_text : {V : Type 0} {most : ℕ} (P : Status → Type 0) → (P status.TextTooLong → ⊥) → (P status.Malformed → ⊥) → (P status.Limit → ⊥) → (IsRight : List ℕ → grammar.Answer V (Counted × ℕ) → Type 0)
+pub comes_in_text : {V : Type 0} (most : ℕ) (P : Status → Type 0) → (P status.TextTooLong → ⊥) → (P status.Malformed → ⊥) → (P status.Limit → ⊥) → (IsRight : List ℕ → grammar.Answer V (Counted × ℕ) → Type 0)
     (Found : V → Outcome → Type 0) (bytes : List ℕ) (f : Finding) → IsFoundInText most IsRight Found bytes f → P (status_of f) → ComesOf IsRight Found bytes f
-comes_in_text P long malformed limit IsRight Found bytes NoCommand found is = absurd found
-comes_in_text P long malformed limit IsRight Found bytes (LongText n) found is = absurd (long is)
-comes_in_text P long malformed limit IsRight Found bytes (WrongLine n) found is = absurd (malformed is)
-comes_in_text P long malformed limit IsRight Found bytes (PastLimit what count) found is = absurd (limit is)
-comes_in_text P long malformed limit IsRight Found bytes (Comes o) found is = (found.1, o, found.2, found.3, refl)
+comes_in_text most P long malformed limit IsRight Found bytes NoCommand found is = absurd found
+comes_in_text most P long malformed limit IsRight Found bytes (LongText n) found is = absurd (long is)
+comes_in_text most P long malformed limit IsRight Found bytes (WrongLine n) found is = absurd (malformed is)
+comes_in_text most P long malformed limit IsRight Found bytes (PastLimit what count) found is = absurd (limit is)
+comes_in_text most P long malformed limit IsRight Found bytes (Comes o) found is = (found.1, o, found.2, found.3, refl)

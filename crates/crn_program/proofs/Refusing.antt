@@ -216,7 +216,7 @@ module _ (words : List (List ℕ)) (bytes text : List ℕ) (s : Status) (answer 
   segment_right row told_so =
       let illegal = subst IsIllegal (sym told_so ∙ answer.status_is) tt in
       let (job, o, read, found, is) =
-      comes_in_text IsIllegal (λ p. p) (λ p. p) (λ p. p) IsJobAnswer IsOutcomeOfJob bytes answer.what (found_by words (OfText Complete) bytes answer.what row answer.found) illegal in
+      comes_in_text _ IsIllegal (λ p. p) (λ p. p) (λ p. p) IsJobAnswer IsOutcomeOfJob bytes answer.what (found_by words (OfText Complete) bytes answer.what row answer.found) illegal in
       let (net, network, refuses) = segment_of_job bytes text job o read found (subst (λ g. IsIllegal (status_of g)) is illegal) (answer.text_is ∙ ap text_of is) in
       (job, read, net, network, refuses)
 
@@ -224,7 +224,7 @@ module _ (words : List (List ℕ)) (bytes text : List ℕ) (s : Status) (answer 
   run_segment_right row told_so =
       let illegal = subst IsIllegal (sym told_so ∙ answer.status_is) tt in
       let (job, o, read, found, is) =
-      comes_in_text IsIllegal (λ p. p) (λ p. p) (λ p. p) IsRunAnswer IsOutcomeOfRunJob bytes answer.what (found_by words (OfText Run) bytes answer.what row answer.found) illegal in
+      comes_in_text _ IsIllegal (λ p. p) (λ p. p) (λ p. p) IsRunAnswer IsOutcomeOfRunJob bytes answer.what (found_by words (OfText Run) bytes answer.what row answer.found) illegal in
       (job, read, segment_of_run bytes text job o read found (subst (λ g. IsIllegal (status_of g)) is illegal) (answer.text_is ∙ ap text_of is))
 
   pub gated_segment_right : IsRow (OfText CompleteGated) words → s ≡ status.Illegal
@@ -233,7 +233,7 @@ module _ (words : List (List ℕ)) (bytes text : List ℕ) (s : Status) (answer 
   gated_segment_right row told_so =
       let illegal = subst IsIllegal (sym told_so ∙ answer.status_is) tt in
       let (job, o, read, found, is) =
-      comes_in_text IsIllegal (λ p. p) (λ p. p) (λ p. p) IsGatedJobAnswer IsOutcomeOfGatedJob bytes answer.what (found_by words (OfText CompleteGated) bytes answer.what row answer.found) illegal in
+      comes_in_text _ IsIllegal (λ p. p) (λ p. p) (λ p. p) IsGatedJobAnswer IsOutcomeOfGatedJob bytes answer.what (found_by words (OfText CompleteGated) bytes answer.what row answer.found) illegal in
       let (net, network, refuses) = segment_of_gated_job bytes text job o read found (subst (λ g. IsIllegal (status_of g)) is illegal) (answer.text_is ∙ ap text_of is) in
       (job, read, net, network, refuses)
 
@@ -241,26 +241,26 @@ module _ (words : List (List ℕ)) (bytes text : List ℕ) (s : Status) (answer 
   pair_right row told_so =
       let disagree = subst IsDisagreement (sym told_so ∙ answer.status_is) tt in
       let (f, o, read, found, is) =
-      comes_in_text IsDisagreement (λ p. p) (λ p. p) (λ p. p) IsFunctionAnswer IsOutcomeOfFunction bytes answer.what (found_by words (OfText Compile) bytes answer.what row answer.found) disagree in
+      comes_in_text _ IsDisagreement (λ p. p) (λ p. p) (λ p. p) IsFunctionAnswer IsOutcomeOfFunction bytes answer.what (found_by words (OfText Compile) bytes answer.what row answer.found) disagree in
       (f, read, pair_of_function f o text found (subst (λ g. IsDisagreement (status_of g)) is disagree) (answer.text_is ∙ ap text_of is))
 
   pub job_pair_right : IsRow (OfText Complete) words → s ≡ status.Disagree → (job : PlainJob) × IsJobAnswer bytes (grammar.Read job) × RefusesPair job.function text
   job_pair_right row told_so =
       let disagree = subst IsDisagreement (sym told_so ∙ answer.status_is) tt in
       let (job, o, read, found, is) =
-      comes_in_text IsDisagreement (λ p. p) (λ p. p) (λ p. p) IsJobAnswer IsOutcomeOfJob bytes answer.what (found_by words (OfText Complete) bytes answer.what row answer.found) disagree in
+      comes_in_text _ IsDisagreement (λ p. p) (λ p. p) (λ p. p) IsJobAnswer IsOutcomeOfJob bytes answer.what (found_by words (OfText Complete) bytes answer.what row answer.found) disagree in
       (job, read, pair_of_job job o text found (subst (λ g. IsDisagreement (status_of g)) is disagree) (answer.text_is ∙ ap text_of is))
 
   pub gap_right : IsRow (OfText Compile) words → s ≡ status.NotCovered → (f : PlainFunction) × IsFunctionAnswer bytes (grammar.Read f) × RefusesGap f text
   gap_right row told_so =
       let gap = subst IsNotCovered (sym told_so ∙ answer.status_is) tt in
       let (f, o, read, found, is) =
-      comes_in_text IsNotCovered (λ p. p) (λ p. p) (λ p. p) IsFunctionAnswer IsOutcomeOfFunction bytes answer.what (found_by words (OfText Compile) bytes answer.what row answer.found) gap in
+      comes_in_text _ IsNotCovered (λ p. p) (λ p. p) (λ p. p) IsFunctionAnswer IsOutcomeOfFunction bytes answer.what (found_by words (OfText Compile) bytes answer.what row answer.found) gap in
       (f, read, gap_of_function f o text found (subst (λ g. IsNotCovered (status_of g)) is gap) (answer.text_is ∙ ap text_of is))
 
   pub job_gap_right : IsRow (OfText Complete) words → s ≡ status.NotCovered → (job : PlainJob) × IsJobAnswer bytes (grammar.Read job) × RefusesGap job.function text
   job_gap_right row told_so =
       let gap = subst IsNotCovered (sym told_so ∙ answer.status_is) tt in
       let (job, o, read, found, is) =
-      comes_in_text IsNotCovered (λ p. p) (λ p. p) (λ p. p) IsJobAnswer IsOutcomeOfJob bytes answer.what (found_by words (OfText Complete) bytes answer.what row answer.found) gap in
+      comes_in_text _ IsNotCovered (λ p. p) (λ p. p) (λ p. p) IsJobAnswer IsOutcomeOfJob bytes answer.what (found_by words (OfText Complete) bytes answer.what row answer.found) gap in
       (job, read, gap_of_job job o text found (subst (λ g. IsNotCovered (status_of g)) is gap) (answer.text_is ∙ ap text_of is))

@@ -149,26 +149,26 @@ module _ (words : List (List ℕ)) (bytes text : List ℕ) (s : Status) (answer 
   differ_right row told_so =
       let so = subst IsDiffer (sym told_so ∙ answer.status_is) tt in
       let (both, o, read, found, is) =
-      comes_in_text IsDiffer (λ p. p) (λ p. p) (λ p. p) IsTwoAnswer IsOutcomeOfTwo bytes answer.what (found_by words (OfText command.Same) bytes answer.what row answer.found) so in
+      comes_in_text _ IsDiffer (λ p. p) (λ p. p) (λ p. p) IsTwoAnswer IsOutcomeOfTwo bytes answer.what (found_by words (OfText command.Same) bytes answer.what row answer.found) so in
       (both, read, differ both o text found (subst (λ g. IsDiffer (status_of g)) is so) (answer.text_is ∙ ap text_of is))
 
   pub sum_right : IsRow (OfText command.Direct) words → s ≡ status.NotSuperadditive → (f : PlainFunction) × IsFunctionAnswer bytes (Read f) × RefusesSum f text
   sum_right row told_so =
       let so = subst IsOfSum (sym told_so ∙ answer.status_is) tt in
       let (f, o, read, found, is) =
-      comes_in_text IsOfSum (λ p. p) (λ p. p) (λ p. p) IsFunctionAnswer IsOutcomeOfDirect bytes answer.what (found_by words (OfText command.Direct) bytes answer.what row answer.found) so in
+      comes_in_text _ IsOfSum (λ p. p) (λ p. p) (λ p. p) IsFunctionAnswer IsOutcomeOfDirect bytes answer.what (found_by words (OfText command.Direct) bytes answer.what row answer.found) so in
       (f, read, falls_short f o text found (subst (λ g. IsOfSum (status_of g)) is so) (answer.text_is ∙ ap text_of is))
 
   pub negative_right : IsRow (OfText command.Direct) words → s ≡ status.Negative → (f : PlainFunction) × IsFunctionAnswer bytes (Read f) × RefusesNegative f text
   negative_right row told_so =
       let so = subst IsOfNegative (sym told_so ∙ answer.status_is) tt in
       let (f, o, read, found, is) =
-      comes_in_text IsOfNegative (λ p. p) (λ p. p) (λ p. p) IsFunctionAnswer IsOutcomeOfDirect bytes answer.what (found_by words (OfText command.Direct) bytes answer.what row answer.found) so in
+      comes_in_text _ IsOfNegative (λ p. p) (λ p. p) (λ p. p) IsFunctionAnswer IsOutcomeOfDirect bytes answer.what (found_by words (OfText command.Direct) bytes answer.what row answer.found) so in
       (f, read, negative f o text found (subst (λ g. IsOfNegative (status_of g)) is so) (answer.text_is ∙ ap text_of is))
 
   pub proof_right : IsRow (OfText command.Check) words → s ≡ status.NotProved → (p : PlainProved) × IsProvedAnswer bytes (Read p) × RefusesProof (end_of bytes) p text
   proof_right row told_so =
       let so = subst IsOfProof (sym told_so ∙ answer.status_is) tt in
       let (p, o, read, found, is) =
-      comes_in_text IsOfProof (λ p. p) (λ p. p) (λ p. p) IsProvedAnswer (IsOutcomeOfCheck (end_of bytes)) bytes answer.what (found_by words (OfText command.Check) bytes answer.what row answer.found) so in
+      comes_in_text _ IsOfProof (λ p. p) (λ p. p) (λ p. p) IsProvedAnswer (IsOutcomeOfCheck (end_of bytes)) bytes answer.what (found_by words (OfText command.Check) bytes answer.what row answer.found) so in
       (p, read, unproved (end_of bytes) p o text found (subst (λ g. IsOfProof (status_of g)) is so) (answer.text_is ∙ ap text_of is))

@@ -29,6 +29,7 @@ number CompileGated = 7
 number CompleteGated = 8
 
 at_number : (command : TextCommand) → get_or commands (number command) Compile ≡ command
+unfolding number
 at_number Compile = refl
 at_number Complete = refl
 at_number Run = refl
@@ -40,6 +41,7 @@ at_number CompileGated = refl
 at_number CompleteGated = refl
 
 few : (command : TextCommand) → number command < length commands
+unfolding number
 few Compile = omega arith
 few Complete = omega arith
 few Run = omega arith
@@ -56,6 +58,7 @@ number_named word [] = 0
 number_named word (command ∷ others) = if bytes_eq word (name_of command) then 0 else suc (number_named word others)
 
 named : (command : TextCommand) → number_named (name_of command) commands ≡ number command
+unfolding number number_named
 named Compile = refl
 named Complete = refl
 named Run = refl

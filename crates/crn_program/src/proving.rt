@@ -50,7 +50,10 @@ fn function_answer(alloc: Global, function: Function) -> Result<Reply, AllocErro
     }
     let variables = function.variables();
     match check_pieces(alloc, function) {
-        Ok(checked) => proof_answer(alloc, variables, &checked),
+        Ok(checked) => {
+            let _checked = checked.function();
+            proof_answer(alloc, variables, &checked)
+        }
         Err(error) => refused_function(alloc, variables, CompileError::from(error)),
     }
 }
@@ -63,6 +66,7 @@ fn proof_answer(
 ) -> Result<Reply, AllocError>
     requires variables { variables ≡ checked.now.variables }
     requires pieces { IsGivenByPieces (kind_of checked.now.kind) }
+    requires checked { AreChecked checked.now.domain (pieces_in checked.now) }
     requires domain { checked.now.domain ≡ domain_for checked.now.variables (kind_of checked.now.kind) }
     ensures { IfOk result (λ reply. Tells (IsOutcomeOfProof (function_of checked.now)) reply.status reply.text.items) }
 {

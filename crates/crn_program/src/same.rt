@@ -1,6 +1,6 @@
 //! The command `same`: two functions are read, and it is written that they are the same, or a point at which they are not.
 
-ghost use Rattle.std.specs.Prelude.{◌≡◌, ◌≢◌, ◌≤◌, length, IfOk};
+ghost use Rattle.std.specs.Prelude.{◌≡◌, ◌≢◌, ◌↔◌, ◌≤◌, length, IfOk, IsTrue};
 ghost use Rattle.crn_formula.specs.Domains.{domain_for};
 ghost use Rattle.crn_formula.specs.Views.{kind_of};
 ghost use Rattle.crn_function_text.specs.Two.{two_of};
@@ -42,7 +42,7 @@ fn comparison(alloc: Global, first: Function, second: Function) -> Result<Reply,
     requires second { second.domain ≡ domain_for second.variables (kind_of second.kind) }
     ensures { IfOk result (λ reply. Tells (IsOutcomeOfTwo (two_of (first, second))) reply.status reply.text.items) }
 {
-    if !is_comparable(&first) || !is_comparable(&second) {
+    if !are_comparable(&first, &second) {
         return other_kind(alloc);
     }
     let variables = first.variables();
@@ -56,6 +56,13 @@ fn comparison(alloc: Global, first: Function, second: Function) -> Result<Reply,
         }),
         Err(error) => refused_comparison(alloc, variables, error),
     }
+}
+
+// Whether neither is the least of forms.
+fn are_comparable(first: &Function, second: &Function) -> bool
+    ensures { IsTrue result ↔ AreComparable (two_of (first.now, second.now)) }
+{
+    is_comparable(first) && is_comparable(second)
 }
 
 // The refusal of functions with so many variables each.
