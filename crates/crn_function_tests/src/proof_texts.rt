@@ -183,14 +183,38 @@ fn other_certificates(rt: HostRuntime) -> Result<(), Fail> {
 #[test]
 fn other_refusals(rt: HostRuntime) -> Result<(), Fail> {
     for (function, proof, error) in [
-        (ABSOLUTE_VALUE, "pair 0 2 0 1 1\n", CheckError::Malformed { line: 7 }),
-        (ABSOLUTE_VALUE, "split\npair 1 2\n", CheckError::Malformed { line: 8 }),
-        (ABSOLUTE_VALUE, "split 1\n", CheckError::Malformed { line: 7 }),
+        (
+            ABSOLUTE_VALUE,
+            "pair 0 2 0 1 1\n",
+            CheckError::Malformed { line: 7 },
+        ),
+        (
+            ABSOLUTE_VALUE,
+            "split\npair 1 2\n",
+            CheckError::Malformed { line: 8 },
+        ),
+        (
+            ABSOLUTE_VALUE,
+            "split 1\n",
+            CheckError::Malformed { line: 7 },
+        ),
         (ABSOLUTE_VALUE, "close\n", CheckError::Malformed { line: 7 }),
-        (ABSOLUTE_VALUE, "close -1\n", CheckError::Malformed { line: 7 }),
-        (ABSOLUTE_VALUE, "piece x1\nopen\n", CheckError::Malformed { line: 8 }),
+        (
+            ABSOLUTE_VALUE,
+            "close -1\n",
+            CheckError::Malformed { line: 7 },
+        ),
+        (
+            ABSOLUTE_VALUE,
+            "piece x1\nopen\n",
+            CheckError::Malformed { line: 8 },
+        ),
         (ONE_PIECE, "close 1\n", CheckError::NotProved { line: 4 }),
-        ("function formula\nvariables 1\nvalue x1\n", "", CheckError::WrongKind),
+        (
+            "function formula\nvariables 1\nvalue x1\n",
+            "",
+            CheckError::WrongKind,
+        ),
         (
             "function pieces\nvariables 9\n",
             "",

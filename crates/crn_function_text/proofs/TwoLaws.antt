@@ -86,6 +86,6 @@ pub two_fit : (lines : List PlainLine) (both : TwoFunctions) → IsText two_tabl
     → IsFitting both.first.variables both.first.kind × IsFitting both.second.variables both.second.kind
 two_fit lines both text low =
     let (f, p, g, first, kept, end, is) =
-        followed_keeps function_table goes_on (λ first. function_table) two IsKept (λ f. IsFitting f.variables f.kind) (λ f p. IsKept p)
-        tt kept_next (λ f. kept_next) (λ s f kept is. (whole_fits s f kept is, tt)) lines both text low in
+    followed_keeps function_table goes_on (λ first. function_table) two IsKept (λ f. IsFitting f.variables f.kind) (λ f p. IsKept p)
+    tt kept_next (λ f. kept_next) (λ s f kept is. (whole_fits s f kept is, tt)) lines both text low in
     subst (λ b. IsFitting b.first.variables b.first.kind × IsFitting b.second.variables b.second.kind) is (first, whole_fits p g kept end)

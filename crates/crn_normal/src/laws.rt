@@ -27,11 +27,15 @@ pub fn values()
 /// What the operations on lists of sets do with their values.
 pub fn operations()
     ensures reduced { (A : Sets) (x : List ℚ) (v : ℚ) → IsValue A x v → IsValue (reduced A) x v }
-    ensures join { (A B : Sets) (x : List ℚ) (v w : ℚ) → IsValue A x v → IsValue B x w → IsValue (reduced (A ++ B)) x (max_ℚ v w) }
-    ensures meet { (A B : Sets) (x : List ℚ) (v w : ℚ) → IsValue A x v → IsValue B x w → IsValue (meet A B) x (min_ℚ v w) }
-    ensures sum { (A B : Sets) (x : List ℚ) (v w : ℚ) → IsValue A x v → IsValue B x w → IsValue (sum_of A B) x (v +ℚ w) }
+    ensures join { (A B : Sets) (x : List ℚ) (v w : ℚ) → IsValue A x v → IsValue B x w
+        → IsValue (reduced (A ++ B)) x (max_ℚ v w) }
+    ensures meet { (A B : Sets) (x : List ℚ) (v w : ℚ) → IsValue A x v → IsValue B x w
+        → IsValue (meet A B) x (min_ℚ v w) }
+    ensures sum { (A B : Sets) (x : List ℚ) (v w : ℚ) → IsValue A x v → IsValue B x w
+        → IsValue (sum_of A B) x (v +ℚ w) }
     ensures neg { (A : Sets) (x : List ℚ) (v : ℚ) → IsValue A x v → IsValue (neg A) x (neg_ℚ v) }
-    ensures multiples { (q : ℚ) (A : Sets) (x : List ℚ) (v : ℚ) → 0ℚ ≤ℚ q → IsValue A x v → IsValue (reduced (multiples q A)) x (q *ℚ v) }
+    ensures multiples { (q : ℚ) (A : Sets) (x : List ℚ) (v : ℚ) → 0ℚ ≤ℚ q → IsValue A x v
+        → IsValue (reduced (multiples q A)) x (q *ℚ v) }
 {}
 
 /// The value of the normal form of a formula is the formula's, at every point.
@@ -43,23 +47,28 @@ pub fn normal_forms()
 /// The first of two formulas is above the second at a point exactly where each form of some set of the normal form of the first less the second is above 0
 /// there. So the two are equal at a point exactly where there is no such set of the first less the second, nor of the second less the first.
 pub fn differences()
-    ensures above { (a b : Formula) (x : List ℚ) → (formula_value b x <ℚ formula_value a x) ↔ Any (λ S. IsPositive S x) (norm (Sub a b)) }
-    ensures equal { (a b : Formula) (x : List ℚ) → (formula_value a x ≡ formula_value b x) ↔ (All (λ S. ¬ IsPositive S x) (norm (Sub a b)) × All (λ S. ¬ IsPositive S x) (norm (Sub b a))) }
+    ensures above { (a b : Formula) (x : List ℚ) → (formula_value b x <ℚ formula_value a x)
+        ↔ Any (λ S. IsPositive S x) (norm (Sub a b)) }
+    ensures equal { (a b : Formula) (x : List ℚ) → (formula_value a x ≡ formula_value b x)
+        ↔ (All (λ S. ¬ IsPositive S x) (norm (Sub a b)) × All (λ S. ¬ IsPositive S x) (norm (Sub b a))) }
 {}
 
 /// No set of a normal form has more than 64 forms where no step is refused, and its forms have as many columns as the formula's. A difference of two has as many
 /// as the longer.
 pub fn sizes()
     ensures few { (e : Formula) → NoneStops (steps e) → All (λ S. length S ≤ 64) (norm e) }
-    ensures few_of_difference { (A B : Sets) → NoneStops (difference_steps A B) → All (λ S. length S ≤ 64) (sum_of A (neg B)) }
+    ensures few_of_difference { (A B : Sets) → NoneStops (difference_steps A B)
+        → All (λ S. length S ≤ 64) (sum_of A (neg B)) }
     ensures columns { (n : ℕ) (e : Formula) → IsOver n e → All (All (λ f. length f ≡ n)) (norm e) }
-    ensures columns_of_difference { (n m : ℕ) (A B : Sets) → All (All (λ f. length f ≡ n)) A → All (All (λ f. length f ≡ m)) B → All (All (λ f. length f ≡ max n m)) (sum_of A (neg B)) }
+    ensures columns_of_difference { (n m : ℕ) (A B : Sets) → All (All (λ f. length f ≡ n)) A
+        → All (All (λ f. length f ≡ m)) B → All (All (λ f. length f ≡ max n m)) (sum_of A (neg B)) }
 {}
 
 /// Want of memory aside, steps are refused in one way exactly, unless each passes, and then in none. So each refusal comes exactly
 /// where it is the first.
 pub fn refusals()
-    ensures one { (steps : List Step) (d e : NormalError) → d ≢ Memory → e ≢ Memory → FirstStops steps d → FirstStops steps e → d ≡ e }
+    ensures one { (steps : List Step) (d e : NormalError) → d ≢ Memory → e ≢ Memory → FirstStops steps d
+        → FirstStops steps e → d ≡ e }
     ensures none { (steps : List Step) (e : NormalError) → e ≢ Memory → NoneStops steps → ¬ FirstStops steps e }
     ensures some { (steps : List Step) → NoneStops steps ⊎ ((e : NormalError) × (e ≢ Memory) × FirstStops steps e) }
 {}
