@@ -57,11 +57,7 @@ fn function_answer(alloc: Global, function: Function) -> Result<Reply, AllocErro
 }
 
 // What is answered where a function of so many variables has no direct network for this cause.
-fn refused_direct(
-    alloc: Global,
-    variables: usize,
-    error: DirectError,
-) -> Result<Reply, AllocError>
+fn refused_direct(alloc: Global, variables: usize, error: DirectError) -> Result<Reply, AllocError>
     ensures { IfOk result (λ reply.
         (error ≢ Compile Memory) × (reply.status ≡ status_of_direct error)
         × (reply.text.items ≡ text_of_direct variables error)) }

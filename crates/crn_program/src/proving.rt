@@ -21,7 +21,9 @@ use crate::reading::refused_lines;
 use crate::refused_function::refused_function;
 use crate::reply::{Reply, refused};
 use crate::status::Status;
-use crn_cert_text::{MakeError, Proved, VerifyError, make_proof, print_proved, read_proved, verify};
+use crn_cert_text::{
+    MakeError, Proved, VerifyError, make_proof, print_proved, read_proved, verify,
+};
 use crn_compile::CompileError;
 use crn_formula::Function;
 use crn_function_text::read_function;
@@ -59,11 +61,7 @@ fn function_answer(alloc: Global, function: Function) -> Result<Reply, AllocErro
 }
 
 // What `prove` answers to a function whose pieces were checked.
-fn proof_answer(
-    alloc: Global,
-    variables: usize,
-    checked: &Checked,
-) -> Result<Reply, AllocError>
+fn proof_answer(alloc: Global, variables: usize, checked: &Checked) -> Result<Reply, AllocError>
     requires variables { variables ≡ checked.now.variables }
     requires pieces { IsGivenByPieces (kind_of checked.now.kind) }
     requires checked { AreChecked checked.now.domain (pieces_in checked.now) }
@@ -111,10 +109,18 @@ fn verdict(alloc: Global, proved: &Proved) -> Result<Reply, AllocError>
     match verify(alloc, &proved.function, &proved.proof) {
         Ok(()) => checked_lines(alloc, proved.proof.lines.len()),
         Err(VerifyError::BigCondition { piece, condition }) => {
-            refused_function(alloc, variables, CompileError::BigCondition { piece, condition })
+            refused_function(
+                alloc,
+                variables,
+                CompileError::BigCondition { piece, condition },
+            )
         }
         Err(VerifyError::BigDifference { first, second }) => {
-            refused_function(alloc, variables, CompileError::BigDifference { first, second })
+            refused_function(
+                alloc,
+                variables,
+                CompileError::BigDifference { first, second },
+            )
         }
         Err(VerifyError::NotProved { index }) => {
             not_proved(alloc, line_of(&proved.proof.numbers, index, proved.end))
