@@ -131,17 +131,6 @@ S6 + S7 -> S8
         ),
         (
             "function pieces
-variables 2
-piece x1
-when x1 - x2 >= 0
-piece x2
-when x2 - x1 >= 0
-",
-            Status::NotSuperadditive,
-            "refused: not superadditive at 2 times 2 1 and 1 2\n",
-        ),
-        (
-            "function pieces
 variables 1
 piece -x1
 ",
