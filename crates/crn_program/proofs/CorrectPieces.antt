@@ -1,5 +1,5 @@
 -- What `prove`, `check`, `same` and `direct` do where they are done.
-use Rattle.std.proofs.Common.{◌≡◌, ℕ, ◌*◌, List, length, Some, refl, sym, ap, ◌∙◌, subst, arith}
+use Rattle.std.proofs.Common.{◌≡◌, ℕ, ◌*◌, ◌≤◌, List, length, Some, refl, sym, ap, ◌∙◌, subst, arith}
 use Rattle.crn_fraction.specs.Rational.{ℚ}
 use Rattle.crn_cert_text.specs.ProvedText.{PlainProved, proved_text, printed_proof}
 use Rattle.crn_cert_text.specs.Proofs.{Line, IsProof}
@@ -12,7 +12,7 @@ use Rattle.crn_compile.specs.Refusals.{of_pieces, of_formula}
 use Rattle.crn_direct.specs.Layout.{direct_layout}
 use Rattle.crn_formula.specs.Domains.{domain_for, orthant}
 use Rattle.crn_formula.specs.Formulas.{Formula, formula_value}
-use Rattle.crn_formula.specs.Functions.{Kind, ByFormula, ByPieces, ByLeast, IsGivenByPieces, kind_value, point_of, is_affine}
+use Rattle.crn_formula.specs.Functions.{Kind, ByFormula, ByPieces, ByLeast, IsGivenByPieces, IsFitting, kind_value, point_of, is_affine}
 use Rattle.crn_formula.specs.Pieces.{Piece, Covers, Agree}
 use Rattle.crn_function_text.specs.Grammar.{PlainFunction}
 use Rattle.crn_function_text.specs.Two.{TwoFunctions}
@@ -24,22 +24,27 @@ use Rattle.crn_same.specs.declared.SameError.{SameError}
 use Rattle.crn_same.specs.declared.SameError.TheVariants as same
 use Rattle.crn_same.specs.Functions.{AreShownSame, IsFormulaFor}
 use Rattle.crn_same.proofs.Comparing.{formula_value_is, amounts_in}
-use Rattle.crn_token.specs.Plain.{end_of}
+use Rattle.crn_token.specs.Plain.{plain_lines, end_of}
 use Rattle.crn_program.specs.Answer.{Answers}
 use Rattle.crn_program.specs.Comparing.{AreFoundSame, IsOutcomeOfTwo}
 use Rattle.crn_program.specs.Correct.{Proves, Checks, Compares, CompilesDirectly}
 use Rattle.crn_program.specs.Directly.{IsCompiledDirectly, IsOutcomeOfDirect}
 use Rattle.crn_program.specs.Finding.{Outcome, RefusedFunction, Compiled, OtherKind, OtherVariables, NotSame, Same, NotDirect, Proved, NotProved, Checked, status_of_cause, status_of_same, status_of_direct, status_of, status_of_outcome, text_of, text_of_outcome}
-use Rattle.crn_program.specs.Proving.{pieces_of, domain_of, IsOutcomeOfProof, IsOutcomeOfCheck}
+use Rattle.crn_program.specs.Proving.{pieces_of, IsProvable, IsOutcomeOfProof, IsOutcomeOfCheck}
 use Rattle.crn_program.specs.Texts.{IsFunctionAnswer, IsProvedAnswer, IsTwoAnswer, IsNetworkAnswer}
 use Rattle.crn_program.specs.Value.{IsValue}
-use Rattle.crn_program.specs.Words.{IsRow}
+use Rattle.crn_program.specs.Words.{IsRow, proved_text_limit}
 use Rattle.crn_program.specs.declared.words.Command.TheVariants.{OfText}
 use Rattle.crn_program.specs.declared.words.TextCommand.TheVariants as command
+use Rattle.crn_program.specs.declared.status.Status.{Status}
 use Rattle.crn_program.specs.declared.status.Status.TheVariants as status
 use Rattle.crn_program.proofs.Computing.{computes_value, input_count}
 use Rattle.crn_program.proofs.Done.{IsDone, done, not_done, comes_in_text}
-use Rattle.crn_program.proofs.Endings.{found_by}
+use Rattle.crn_program.proofs.Endings.{found_by, comes_of}
+use Rattle.crn_program.proofs.OneAnswer.{one_proved_answer}
+use Rattle.crn_program.proofs.OneOfPieces.{check_case, two_checked}
+use Rattle.crn_program.proofs.SomeOfPieces.{is_checked}
+use Rattle.crn_function_text.proofs.Kept.{text_fits}
 
 -- a function by pieces has these pieces
 pub by_pieces : (kind : Kind) → IsGivenByPieces kind → kind ≡ ByPieces (pieces_of_kind kind)
@@ -191,3 +196,43 @@ module _ (words : List (List ℕ)) (bytes text : List ℕ) (answer : Answers wor
   direct_right row =
       let (f, o, read, found, is) = comes_in_text _ IsDone (λ d. d) (λ d. d) (λ d. d) IsFunctionAnswer IsOutcomeOfDirect bytes answer.what (found_by words (OfText command.Direct) bytes answer.what row answer.found) is_done in
       compiles_directly bytes text f o read found (subst (λ g. IsDone (status_of g)) is is_done) (answer.text_is ∙ ap text_of is)
+
+-- ---- what `prove` writes is accepted by `check`
+
+abbrev HasProof : List ℕ → Type 0
+HasProof text = (f : PlainFunction) × (lines : List Line) × IsProvable f lines × (text ≡ proved_text f lines) × IsFitting f.variables f.kind
+
+has_proof : (f : PlainFunction) (o : Outcome) (text : List ℕ) → IsFitting f.variables f.kind → IsOutcomeOfProof f o → IsDone (status_of_outcome o) → text ≡ text_of_outcome o → HasProof text
+has_proof f OtherKind text fit found is text_is = absurd is
+has_proof f (RefusedFunction k e) text fit found is text_is = absurd (not_done e is)
+has_proof f (Proved g lines) text fit found is text_is = (f, lines, found.1, text_is ∙ ap (λ h. proved_text h lines) found.0, fit)
+has_proof f _ text fit found is text_is = absurd found
+
+written_proof : (words : List (List ℕ)) (bytes text : List ℕ) → IsRow (OfText command.Prove) words → Answers words bytes status.Done text → HasProof text
+written_proof words bytes text row answer =
+    let is_done = done (status_of answer.what) answer.status_is in
+    let (f, o, read, found, is) =
+    comes_in_text _ IsDone (λ d. d) (λ d. d) (λ d. d) IsFunctionAnswer IsOutcomeOfProof bytes answer.what (found_by words (OfText command.Prove) bytes answer.what row answer.found) is_done in
+    has_proof f o text (text_fits (plain_lines bytes) f read.0 read.1) found (subst (λ g. IsDone (status_of g)) is is_done) (answer.text_is ∙ ap text_of is)
+
+-- the lines are accepted behind the function
+checked_lines : (text : List ℕ) (f : PlainFunction) (lines : List Line) → IsFitting f.variables f.kind → IsProvable f lines → IsOutcomeOfCheck (end_of text) (printed_proof f lines) (Checked (length lines))
+checked_lines text f lines fit proved =
+    let ready = proved.checked.prepared in
+    (refl, is_checked (printed_proof f lines) fit proved.pieces (record { conditions = ready.conditions; differences = ready.differences; proved = proved.proof }))
+
+-- nothing else is found of them
+one_outcome : (text : List ℕ) (f : PlainFunction) (lines : List Line) (o : Outcome) → IsFitting f.variables f.kind → IsProvable f lines → IsOutcomeOfCheck (end_of text) (printed_proof f lines) o
+    → o ≡ Checked (length lines)
+one_outcome text f lines o fit proved found =
+    two_checked (end_of text) (printed_proof f lines) o (Checked (length lines)) (check_case (end_of text) (printed_proof f lines) o found)
+    (check_case (end_of text) (printed_proof f lines) (Checked (length lines)) (checked_lines text f lines fit proved))
+
+pub proof_accepted : (words others : List (List ℕ)) (bytes text written : List ℕ) (s : Status) → IsRow (OfText command.Prove) words → Answers words bytes status.Done text
+    → IsRow (OfText command.Check) others → length text ≤ proved_text_limit → Answers others text s written → s ≡ status.Done
+proof_accepted words others bytes text written s row answer other short checked =
+    let (f, lines, proved, text_is, fit) = written_proof words bytes text row answer in
+    let reads = subst (λ t. IsProvedAnswer t (Read (printed_proof f lines))) (sym text_is) proved.reads_back in
+    let (o, found, is) =
+    comes_of IsProvedAnswer (IsOutcomeOfCheck (end_of text)) one_proved_answer text (printed_proof f lines) checked.what short reads (found_by others (OfText command.Check) text checked.what other checked.found) in
+    checked.status_is ∙ ap status_of is ∙ ap status_of_outcome (one_outcome text f lines o fit proved found)

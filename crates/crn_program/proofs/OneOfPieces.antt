@@ -210,21 +210,21 @@ one_of_two both o p first second = two_compared both o p (two_case both o first)
 -- ---- `check`
 
 -- what comes where a proof is refused so
-told_of : (end : ℕ) → PlainProved → VerifyError → Outcome
+pub told_of : (end : ℕ) → PlainProved → VerifyError → Outcome
 told_of end p (verify.BigCondition i c) = RefusedFunction p.function.variables (BigCondition i c)
 told_of end p (verify.BigDifference i j) = RefusedFunction p.function.variables (BigDifference i j)
 told_of end p (verify.NotProved n) = NotProved (slice_index_or p.proof.numbers (n - 1) end)
 told_of end p verify.Memory = OtherKind
 
-abbrev IsRefusedProof : PlainProved → VerifyError → Type 0
+abbrev pub IsRefusedProof : PlainProved → VerifyError → Type 0
 IsRefusedProof p e = IsGivenByPieces p.function.kind × (e ≢ verify.Memory) × IsRejected (domain_of p.function) (pieces_of p.function) p.proof.lines e
 
-abbrev CheckCase : ℕ → PlainProved → Outcome → Type 0
+abbrev pub CheckCase : ℕ → PlainProved → Outcome → Type 0
 CheckCase end p o =
     ((o ≡ OtherKind) × (¬ IsGivenByPieces p.function.kind))
     ⊎ (((e : VerifyError) × IsRefusedProof p e × (o ≡ told_of end p e)) ⊎ ((o ≡ Checked (length p.proof.lines)) × IsChecked p))
 
-check_case : (end : ℕ) (p : PlainProved) (o : Outcome) → IsOutcomeOfCheck end p o → CheckCase end p o
+pub check_case : (end : ℕ) (p : PlainProved) (o : Outcome) → IsOutcomeOfCheck end p o → CheckCase end p o
 unfolding told_of
 check_case end p OtherKind found = inl (refl, found)
 check_case end p (RefusedFunction k (BigCondition i c)) found =
@@ -251,7 +251,7 @@ module _ (end : ℕ) (p : PlainProved) where
   not_both (verify.NotProved n) found (given, cause, is) = no_proof_unfit D P p.proof.lines n found.some found.accepted.proved is.2
   not_both verify.Memory found (given, cause, is) = cause refl
 
-  two_checked : (o q : Outcome) → CheckCase end p o → CheckCase end p q → o ≡ q
+  pub two_checked : (o q : Outcome) → CheckCase end p o → CheckCase end p q → o ≡ q
   two_checked o q (inl (is, none)) (inl (also, other)) = is ∙ sym also
   two_checked o q (inl (is, none)) (inr (inl (e, second, also))) = absurd (none second.0)
   two_checked o q (inl (is, none)) (inr (inr (also, second))) = absurd (none second.pieces)

@@ -53,6 +53,7 @@ fn function_answer(alloc: Global, function: Function) -> Result<Reply, AllocErro
     let variables = function.variables();
     match check_pieces(alloc, function) {
         Ok(checked) => {
+            // Its clauses say that the pieces were checked.
             let _checked = checked.function();
             proof_answer(alloc, variables, &checked)
         }
