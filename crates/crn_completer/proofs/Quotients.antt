@@ -12,7 +12,7 @@ use Rattle.crn_net.specs.Views.{natural, part_of, parts_of}
 use Rattle.crn_net.specs.declared.Part.{Part}
 use Rattle.crn_net.proofs.Sides.{read}
 use Rattle.crn_fraction.proofs.Products.{is_zero_ℚ_cases}
-use Rattle.crn_fraction.specs.Parts.{num-whole}
+use Rattle.crn_fraction.proofs.Wholes.{num-whole}
 use Rattle.crn_segments.proofs.Refusals.{part_in_range, parts_dropped}
 use Rattle.crn_segments.proofs.SignLaws.{frac_is, not_frac_is}
 use Rattle.crn_completer.specs.Refusal.{lacks, unfit_quotient}

@@ -6,7 +6,7 @@ use Rattle.std.specs.Int.{◌∣◌}
 use Rattle.std.proofs.Math.Nat.{div-mul_cancel, eq_of_mul-eq-mul_right, mul-div-le}
 use Rattle.std.proofs.lemmas.Nat.{le-div, mul-le}
 use Rattle.std.proofs.lemmas.Int.{ints, unsigned_abs-mul}
-use Rattle.crn_fraction.specs.Parts.{num-whole, den-whole}
+use Rattle.crn_fraction.proofs.Wholes.{num-whole, den-whole}
 use Rattle.crn_fraction.specs.Rational.{ℚ, ratio, whole, neg_ℚ, inverse_ℚ, turned, ◌+ℚ◌, ◌*ℚ◌, ◌/ℚ◌}
 use Rattle.crn_fraction.proofs.Core.{ratio_cross, ratio_same}
 use Rattle.crn_fraction.proofs.Integers.{ring_ℤ, z-writes}

@@ -4,7 +4,7 @@ use Rattle.std.proofs.lemmas.Option.{none-some, same_Some}
 use Rattle.crn_token.specs.declared.Sign.TheVariants.{Slash}
 use Rattle.crn_token.specs.Plain.{Plain, PlainNumber, PlainSign}
 use Rattle.crn_fraction.specs.Rational.{ℚ, whole, ◌/ℚ◌}
-use Rattle.crn_fraction.specs.Parts.{num-whole}
+use Rattle.crn_fraction.proofs.Wholes.{num-whole}
 use Rattle.crn_form_text.specs.declared.mark.Mark.{Mark}
 use Rattle.crn_form_text.specs.declared.mark.Mark.TheVariants as mark
 use Rattle.crn_form_text.specs.declared.number.Count.{Count}

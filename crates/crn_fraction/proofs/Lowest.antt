@@ -7,9 +7,11 @@ use Rattle.std.proofs.lemmas.Bool.{cases_eq}
 use Rattle.std.proofs.lemmas.Int.{ints, unsigned_abs-mul}
 use Rattle.std.proofs.lemmas.Nat.Gcd.{dvd_refl, dvd_trans, dvd-zero, le_of_dvd}
 use Rattle.std.proofs.Math.Nat.{dvd-add, dvd-add_iff_left, dvd-add_iff_right, dvd-mul_right, dvd-mul_left, mul_comm}
-use Rattle.crn_fraction.specs.Gcd.{gcd, gcd-pos, IsCoprime, IsCoprime-over_gcd, IsCoprime-of_gcd, dvd_of_coprime, left-over_gcd, right-over_gcd}
+use Rattle.crn_fraction.specs.Gcd.{gcd, gcd-pos, IsCoprime, IsCoprime-over_gcd, IsCoprime-of_gcd, left-over_gcd, right-over_gcd}
+use Rattle.crn_fraction.proofs.Scaled.{dvd_of_coprime}
 use Rattle.crn_fraction.specs.Rational.{ℚ, IsLowest, ratio, whole, ◌+ℚ◌, ◌*ℚ◌, unsigned_abs-int_div}
-use Rattle.crn_fraction.specs.Parts.{ratio_self, ratio_lowest, num-whole, den-whole}
+use Rattle.crn_fraction.specs.Parts.{ratio_self, ratio_lowest}
+use Rattle.crn_fraction.proofs.Wholes.{num-whole, den-whole}
 use Rattle.crn_fraction.proofs.Integers.{ring_ℤ, z-writes}
 use Rattle.crn_fraction.proofs.Core.{ratio_same, ratio_cross, num-ratio, den-ratio}
 use Rattle.crn_fraction.proofs.Ratios.{times_pos, ratio-*ℚ, over-+ℚ}

@@ -7,7 +7,8 @@ use Rattle.std.proofs.lemmas.Int.{ints, unsigned_abs-mul}
 use Rattle.std.proofs.lemmas.Nat.Gcd.{le_of_dvd}
 use Rattle.std.proofs.Math.Nat.{div-mul_cancel, mul-dvd-mul_left, dvd_of_mul-dvd-mul_right, pos_of_dvd_of_pos, div-one}
 use Rattle.crn_fraction.specs.Rational.{ℚ, whole, 0ℚ, ◌*ℚ◌, ◌/ℚ◌, inverse_ℚ}
-use Rattle.crn_fraction.specs.Parts.{ratio_self, num-whole}
+use Rattle.crn_fraction.specs.Parts.{ratio_self}
+use Rattle.crn_fraction.proofs.Wholes.{num-whole}
 use Rattle.crn_fraction.proofs.Integers.{ring_ℤ, z-writes}
 use Rattle.crn_fraction.proofs.Core.{ratio_same}
 use Rattle.crn_fraction.proofs.Ratios.{over-whole-*ℚ}

@@ -8,7 +8,8 @@ use Rattle.std.proofs.lemmas.Nat.Gcd.{le_of_dvd, dvd_refl}
 use Rattle.std.proofs.Math.Nat.{div-mul_cancel, div-one}
 use Rattle.std.proofs.lemmas.List as lists
 use Rattle.crn_fraction.specs.Rational.{ℚ, IsLowest, ratio, whole, 0ℚ, ◌*ℚ◌, ◌/ℚ◌, neg_ℚ, inverse_ℚ, is_zero_ℚ}
-use Rattle.crn_fraction.specs.Parts.{same_parts, ratio_lowest, num-whole, den-whole}
+use Rattle.crn_fraction.specs.Parts.{same_parts, ratio_lowest}
+use Rattle.crn_fraction.proofs.Wholes.{num-whole, den-whole}
 use Rattle.crn_fraction.proofs.Core.{zero_by_num}
 use Rattle.crn_fraction.proofs.Ring.{ring_ℚ, q-writes, zero-*ℚ}
 use Rattle.crn_fraction.proofs.Products.{*ℚ-inverse, /ℚ-is, is_zero_ℚ_cases}

@@ -4,7 +4,7 @@ use Rattle.std.specs.Prelude.{pos}
 use Rattle.std.proofs.Math.Nat.{eq-or-lt_of_le}
 use Rattle.crn_fraction.specs.Rational.{ℚ, 0ℚ, ◌+ℚ◌, ◌*ℚ◌}
 use Rattle.crn_fraction.specs.Frac.{IsFrac}
-use Rattle.crn_fraction.specs.Parts.{num-whole, den-whole}
+use Rattle.crn_fraction.proofs.Wholes.{num-whole, den-whole}
 use Rattle.crn_fraction.proofs.Ring.{ring_ℚ, q-writes, +ℚ-zero, zero-+ℚ}
 use Rattle.crn_linear.specs.Forms.{at, plus, entry_of}
 

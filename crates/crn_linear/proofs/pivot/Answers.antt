@@ -3,7 +3,7 @@ use Rattle.std.specs.Int.{w128}
 use Rattle.std.specs.Prelude.{ℤ, pos, ◌<ℤ◌, unsigned_abs}
 use Rattle.std.proofs.lemmas.Int.{ints}
 use Rattle.crn_fraction.specs.Rational.{0ℚ, ◌-ℚ◌}
-use Rattle.crn_fraction.specs.Parts.{num-whole}
+use Rattle.crn_fraction.proofs.Wholes.{num-whole}
 use Rattle.crn_fraction.proofs.Core.{zero_by_num}
 use Rattle.crn_linear.specs.Forms.{entry_of, minus}
 use Rattle.crn_linear.specs.Cleared.{size_ℚ, pivot}

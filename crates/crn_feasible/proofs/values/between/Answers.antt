@@ -1,7 +1,7 @@
 use Rattle.std.proofs.Common.{arith, zero, suc, true, false, sym, ap, ap₂, ◌∙◌, ◌≡◌, ◌<◌, ◌≤◌, ◌^◌, ℕ, subst, eqb-true, Option}
 use Rattle.std.specs.Prelude.{pos, MatchOption, ◌==◌, unsigned_abs}
 use Rattle.crn_fraction.specs.Rational.{ℚ, whole, ◌+ℚ◌, ◌-ℚ◌, ◌/ℚ◌}
-use Rattle.crn_fraction.specs.Parts.{num-whole, den-whole}
+use Rattle.crn_fraction.proofs.Wholes.{num-whole, den-whole}
 use Rattle.crn_feasible.specs.Elimination.{fits_ℚ}
 use Rattle.crn_feasible.proofs.Picked.{between-none, between-lows, between-highs, between-both}
 use Rattle.crn_feasible.proofs.SmallRatios.{fits_parts}
