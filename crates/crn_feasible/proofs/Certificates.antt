@@ -11,11 +11,12 @@ use Rattle.crn_fraction.proofs.Integers.{ring_ℤ, z-writes}
 use Rattle.crn_fraction.proofs.Products.{nonneg_times, positive_times}
 use Rattle.crn_linear.specs.Rows.{Row, dot}
 use Rattle.crn_farkas.specs.Systems.{System, IsCertificate, column, no_row}
-use Rattle.crn_feasible.specs.Elimination.{Stop, refuted, passes, Kept, after, over, reduced, divisor, is_zero, take_row, take_rows, entry, combined, without, numerators_over, next, coordinates, unit, started, elimination}
+use Rattle.crn_feasible.specs.Elimination.{Stop, refuted, passes, Kept, after, reduced, divisor, is_zero, take_row, take_rows, entry, combined, without, numerators_over, next, coordinates, unit, started, elimination}
+use Rattle.crn_linear.specs.Cleared.{over}
 use Rattle.crn_farkas.specs.Mixtures.{mixed}
 use Rattle.crn_linear.specs.Cleared.{common_den}
 use Rattle.crn_linear.proofs.Sums.{dot-zeros}
-use Rattle.crn_feasible.proofs.Divisors.{Divides, Divides-common, Divides-right, over-back}
+use Rattle.crn_linear.proofs.Commons.{Divides, Divides-common, Divides-right, over-back}
 use Rattle.crn_farkas.proofs.Mixing.{dot-times, dot-mixed, get_or-times, get_or-mixed}
 use Rattle.crn_farkas.proofs.Motzkin.{IsNonnegative}
 use Rattle.crn_feasible.proofs.Orders.{Each, Each-weaker}
@@ -30,10 +31,6 @@ pub record IsMade (rows : List Row) (k : Kept) : Type 0 where
   pub some_strict : k.row.strict ≡ true → (i : ℕ) × IsTrue (get_or rows i no_row).strict × (pos 0 <ℤ get_or k.multipliers i (pos 0))
 
 -- ---- over the divisor
-pub length-over : (g : ℕ) (xs : List ℤ) → length (over g xs) ≡ length xs
-length-over g [] = refl
-length-over g (x ∷ xs) = ap suc (length-over g xs)
-
 nonneg_div : (x : ℤ) (g : ℕ) → pos 0 ≤ℤ x → pos 0 ≤ℤ int_div x (pos g)
 nonneg_div (pos a) g h = omega (arith, ints)
 nonneg_div (negsuc a) g h = absurd (omega (arith, ints))

@@ -12,14 +12,16 @@ use Rattle.crn_fraction.proofs.Euclid.{gcd_end}
 use Rattle.crn_linear.specs.Rows.{AreSmall}
 use Rattle.crn_linear.specs.Views.{padded}
 use Rattle.crn_feasible.specs.declared.rows.KeptRow.{KeptRow}
-use Rattle.crn_feasible.specs.Elimination.{Kept, common, over, fits, divisor, reduced}
+use Rattle.crn_feasible.specs.Elimination.{Kept, fits, divisor, reduced}
+use Rattle.crn_linear.specs.Cleared.{common, over}
 use Rattle.crn_feasible.specs.Chosen.{Misses}
 use Rattle.crn_feasible.specs.declared.rows.Ending.{Ending}
 use Rattle.crn_feasible.specs.declared.rows.Ending.TheVariants.{Refuted, TooBig, TooManyRows, Memory}
 use Rattle.crn_feasible.specs.Sparse.{spread, Ascend, divided, Mixes, AreSmallAt}
 use Rattle.crn_feasible.specs.Steps.{Combines, kept, kept_of, mixed_rows, IsMade, IsKeptRow}
 use Rattle.crn_feasible.proofs.Lists.{all_fit, all_fit_at}
-use Rattle.crn_feasible.proofs.Certificates.{length-over, length-mixed}
+use Rattle.crn_feasible.proofs.Certificates.{length-mixed}
+use Rattle.crn_linear.proofs.Commons.{length-over}
 use Rattle.crn_feasible.proofs.Sparse.{over-spread, fold-spread, all-spread, ascend-divided}
 
 -- the divisor of a row, from that of its entries on over its multipliers

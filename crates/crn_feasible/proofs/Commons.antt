@@ -3,26 +3,17 @@ use Rattle.std.proofs.Common.{◌≡◌, ⊎_elim, ℕ, zero, suc, ◌+◌, ◌<
 use Rattle.std.specs.Prelude.{ℤ, pos, ◌+ℤ◌, ◌*ℤ◌, unsigned_abs}
 use Rattle.std.specs.List.{fold}
 use Rattle.std.proofs.Math.Nat.{le_of_dvd, eq-zero-or-pos, eq-one_of_dvd-one}
-use Rattle.crn_feasible.proofs.Divisors.{common_from-first}
+use Rattle.crn_linear.proofs.Commons.{common_more, from_one}
 use Rattle.std.proofs.lemmas.List.Sums.{fold_more}
 use Rattle.std.proofs.lemmas.List.{take_all}
 use Rattle.std.proofs.lemmas.Int.{ints}
 use Rattle.std.specs.Int.{w128}
 use Rattle.crn_fraction.specs.Gcd.{gcd, IsGcd-gcd}
-use Rattle.crn_feasible.specs.Elimination.{common}
+use Rattle.crn_linear.specs.Cleared.{common}
 use Rattle.crn_farkas.specs.Mixtures.{mixed}
 use Rattle.crn_fraction.proofs.Euclid.{gcd_end}
 use Rattle.crn_farkas.proofs.Mixing.{get_or-mixed}
 use Rattle.crn_feasible.proofs.Certificates.{length-mixed}
-
-pub common_more : (xs : List ℤ) (i g h : ℕ) (x : ℤ) → i < length xs → g ≡ common (take i xs) → x ≡ get_or xs i (pos 0) → h ≡ gcd g (unsigned_abs x) → h ≡ common (take (i + 1) xs)
-common_more xs i g h x l e f k =
-    k ∙ ap₂ (λ s t. gcd s (unsigned_abs t)) e f ∙ sym (fold_more (λ g x. gcd g (unsigned_abs x)) 0 xs i (pos 0) l)
-
-pub gcd_small : (a b m : ℕ) → a ≤ m → b ≤ m → gcd a b ≤ m
-gcd_small a b m h k =
-    ⊎_elim (λ (e : b ≡ 0). let f : gcd a b ≡ a = ap (gcd a) e ∙ gcd_end a in omega arith)
-    (λ (p : 0 < b). let l = le_of_dvd p (IsGcd-gcd a b).1 in omega arith) (eq-zero-or-pos b)
 
 pub mixed_more : (a b : ℤ) (p n : List ℤ) (i g h : ℕ) (x : ℤ) → length p ≡ length n → i < length p → g ≡ common (take i (mixed a p b n))
     → x ≡ a *ℤ get_or p i (pos 0) +ℤ b *ℤ get_or n i (pos 0) → h ≡ gcd g (unsigned_abs x) → h ≡ common (take (i + 1) (mixed a p b n))
@@ -38,19 +29,7 @@ mixed_all a b p n i g e l f =
     let long : length (mixed a p b n) ≡ length p = length-mixed a p b n (length p) refl (sym e) in
     f ∙ ap common (take_all i (mixed a p b n) (omega (arith, long)))
 
--- ---- a divisor of 1 stays
-from_more : (i n : ℕ) (xs : List ℤ) → fold (λ g x. gcd g (unsigned_abs x)) n xs ≡ fold (λ g x. gcd g (unsigned_abs x)) (fold (λ g x. gcd g (unsigned_abs x)) n (take i xs)) (drop i xs)
-from_more zero n xs = refl
-from_more (suc i) n [] = refl
-from_more (suc i) n (x ∷ xs) = from_more i (gcd n (unsigned_abs x)) xs
-
-from_one : (xs : List ℤ) → fold (λ g x. gcd g (unsigned_abs x)) 1 xs ≡ 1
-from_one xs = eq-one_of_dvd-one (common_from-first 1 xs)
-
-pub one_ends : (i g : ℕ) (xs : List ℤ) → g ≡ common (take i xs) → g ≡ 1 → 1 ≡ common xs
-one_ends i g xs e f = sym (from_more i 0 xs ∙ ap (λ n. fold (λ g x. gcd g (unsigned_abs x)) n (drop i xs)) (sym e ∙ f) ∙ from_one (drop i xs))
-
--- and so of multipliers
+-- ---- a divisor of 1 of multipliers stays
 from_more_at : (i n : ℕ) (ms : List (ℕ × ℤ)) → fold (λ g m. gcd g (unsigned_abs m.1)) n ms ≡ fold (λ g m. gcd g (unsigned_abs m.1)) (fold (λ g m. gcd g (unsigned_abs m.1)) n (take i ms)) (drop i ms)
 from_more_at zero n ms = refl
 from_more_at (suc i) n [] = refl

@@ -3,9 +3,10 @@ use Rattle.std.proofs.Common.{◌≡◌, ℕ, List, [], ◌∷◌, length, get_o
 use Rattle.std.specs.Prelude.{ℤ, pos, int_div, ◌+ℤ◌, ◌*ℤ◌}
 use Rattle.std.proofs.lemmas.Int.{ints}
 use Rattle.crn_farkas.specs.Mixtures.{mixed}
-use Rattle.crn_feasible.specs.Elimination.{common, direction}
-use Rattle.crn_feasible.proofs.Points.{get_or-over}
-use Rattle.crn_feasible.proofs.Certificates.{length-over}
+use Rattle.crn_feasible.specs.Elimination.{direction}
+use Rattle.crn_linear.specs.Cleared.{common}
+use Rattle.crn_linear.proofs.Commons.{get_or-over}
+use Rattle.crn_linear.proofs.Commons.{length-over}
 
 -- once a list and not at all another
 pub mixed-one : (xs : List ℤ) → mixed (pos 1) xs (pos 0) xs ≡ xs

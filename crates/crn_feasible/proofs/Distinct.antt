@@ -9,7 +9,8 @@ use Rattle.std.specs.Bool.{beq}
 use Rattle.std.proofs.Math.Nat.{div_self, zero-mod, zero-div}
 use Rattle.std.proofs.lemmas.Int.{ints}
 use Rattle.crn_fraction.specs.Gcd.{gcd}
-use Rattle.crn_feasible.specs.Elimination.{Kept, common, over, direction, same_direction, entry}
+use Rattle.crn_feasible.specs.Elimination.{Kept, direction, same_direction, entry}
+use Rattle.crn_linear.specs.Cleared.{common, over}
 use Rattle.crn_fraction.proofs.Euclid.{gcd_step, gcd_end}
 use Rattle.crn_feasible.proofs.Orders.{Each}
 use Rattle.crn_feasible.proofs.Taking.{NonZero, Each-append, test_from_zeros}

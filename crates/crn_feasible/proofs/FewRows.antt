@@ -10,7 +10,8 @@ use Rattle.crn_linear.specs.Cleared.{common_den}
 use Rattle.crn_feasible.proofs.Orders.{Each, Each-weaker}
 use Rattle.crn_feasible.proofs.Taking.{NonZero, after-ok, after-err, row_kept, rows_kept}
 use Rattle.crn_feasible.proofs.Points.{ZeroFrom, zero_reduced, zero_zeros, zero_combined, past, Each-without, HasFullRows}
-use Rattle.crn_feasible.proofs.Certificates.{length-mixed, length-over}
+use Rattle.crn_feasible.proofs.Certificates.{length-mixed}
+use Rattle.crn_linear.proofs.Commons.{length-over}
 use Rattle.crn_feasible.proofs.Counts.{full_by, at_least, none_full, rows_full, kept_length, first_not_full}
 use Rattle.crn_feasible.proofs.Distinct.{Distinct, Distinct-push, IsSingle, at_most_four}
 use Rattle.crn_feasible.proofs.Parts.{length-started}

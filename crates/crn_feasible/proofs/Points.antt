@@ -20,7 +20,8 @@ use Rattle.crn_linear.proofs.Multiples.{numerator_is}
 use Rattle.crn_linear.proofs.WholePoints.{meets_whole}
 use Rattle.crn_linear.specs.Rows.{Row, Meets, MeetsWhole, IsBelow, value}
 use Rattle.crn_farkas.specs.Systems.{System, IsRectangular, IsWholePoint}
-use Rattle.crn_feasible.specs.Elimination.{Kept, after, over, reduced, divisor, is_zero, take_rows, entry, zeros, positives, negatives, combined, without, bound, between, numerators_over, next, coordinates, started, elimination}
+use Rattle.crn_feasible.specs.Elimination.{Kept, after, reduced, divisor, is_zero, take_rows, entry, zeros, positives, negatives, combined, without, bound, between, numerators_over, next, coordinates, started, elimination}
+use Rattle.crn_linear.specs.Cleared.{over}
 use Rattle.crn_linear.specs.Cleared.{common_den}
 use Rattle.crn_farkas.proofs.Mixing.{get_or-mixed}
 use Rattle.crn_feasible.proofs.Long.{next_is, coordinates-long}
@@ -32,11 +33,6 @@ use Rattle.crn_feasible.proofs.Columns.{Each-passes, Each-filter, column_met}
 -- ---- columns that are gone stay gone
 unfoldable pub ZeroFrom : ℕ → Kept → Type 0
 ZeroFrom v k = (i : ℕ) → v ≤ i → get_or k.row.entries i (pos 0) ≡ pos 0
-
-pub get_or-over : (g : ℕ) (xs : List ℤ) (i : ℕ) → get_or (over g xs) i (pos 0) ≡ int_div (get_or xs i (pos 0)) (pos g)
-get_or-over g [] i = ap pos (sym (zero-div g))
-get_or-over g (x ∷ xs) zero = refl
-get_or-over g (x ∷ xs) (suc i) = get_or-over g xs i
 
 pub zero_reduced : (v : ℕ) (k : Kept) → ZeroFrom v k → ZeroFrom v (reduced k)
 unfolding ZeroFrom reduced

@@ -8,10 +8,12 @@ use Rattle.crn_fraction.specs.Rational.{unsigned_abs-int_div}
 use Rattle.std.proofs.lemmas.Int.{ints, to_z-of_z, quot_fits, fits_signed_from_abs}
 use Rattle.std.proofs.lemmas.Bool.{and_right, lt-leb}
 use Rattle.crn_linear.specs.Rows.{IsSmall}
-use Rattle.crn_feasible.specs.Elimination.{fits, over}
+use Rattle.crn_feasible.specs.Elimination.{fits}
+use Rattle.crn_linear.specs.Cleared.{over}
 use Rattle.crn_farkas.specs.Mixtures.{mixed}
-use Rattle.crn_feasible.proofs.Points.{get_or-over}
-use Rattle.crn_feasible.proofs.Certificates.{length-over, length-mixed}
+use Rattle.crn_linear.proofs.Commons.{get_or-over}
+use Rattle.crn_feasible.proofs.Certificates.{length-mixed}
+use Rattle.crn_linear.proofs.Commons.{length-over}
 use Rattle.crn_farkas.proofs.Mixing.{get_or-mixed}
 
 natural_is : (n : ℕ) → n ≤ 2 ^ 119 → to_z w128 n ≡ pos n
@@ -63,9 +65,3 @@ refused_at a b p n g i x e l h k =
     let long : length (over g m) ≡ length p = length-over g m ∙ length-mixed a p b n (length p) refl (sym e) in
     let item : get_or (over g m) i (pos 0) ≡ int_div x (pos g) = get_or-over g m i ∙ ap (λ t. int_div t (pos g)) (get_or-mixed a p b n i ∙ sym h) in
     false_at (over g m) i (omega (arith, long)) (ap fits item ∙ k)
-
--- a quotient is no greater in size
-pub quotient_small : (z : ℤ) (g : ℕ) → unsigned_abs z ≤ 2 ^ 59 → unsigned_abs (int_div z (pos g)) ≤ 2 ^ 59
-quotient_small z g h =
-    let l = div-le_self (unsigned_abs z) g in
-    omega (arith, h, l, unsigned_abs-int_div z g)

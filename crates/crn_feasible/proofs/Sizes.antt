@@ -7,7 +7,8 @@ use Rattle.std.proofs.lemmas.Int.{ints, unsigned_abs-mul}
 use Rattle.std.proofs.lemmas.Bool.{both_ways, le-leb}
 use Rattle.std.proofs.lemmas.Nat.{mul-le}
 use Rattle.crn_fraction.specs.Rational.{unsigned_abs-int_div}
-use Rattle.crn_feasible.specs.Elimination.{Stop, refuted, passes, too_many, Kept, fits, over, reduced, divisor, is_zero, combined, entry, take_row, take_rows, without}
+use Rattle.crn_feasible.specs.Elimination.{Stop, refuted, passes, too_many, Kept, fits, reduced, divisor, is_zero, combined, entry, take_row, take_rows, without}
+use Rattle.crn_linear.specs.Cleared.{over}
 use Rattle.crn_farkas.specs.Mixtures.{mixed}
 use Rattle.crn_feasible.proofs.Orders.{Each, Each-weaker}
 use Rattle.crn_feasible.proofs.Taking.{after-err, rows_kept}

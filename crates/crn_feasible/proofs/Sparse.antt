@@ -8,7 +8,7 @@ use Rattle.std.proofs.lemmas.Int.{ints}
 use Rattle.std.proofs.lemmas.List.{take_more, take_all, drop_all, append-nil, map-append}
 use Rattle.std.proofs.Math.Nat.{zero-div}
 use Rattle.crn_farkas.specs.Mixtures.{mixed}
-use Rattle.crn_feasible.specs.Elimination.{over}
+use Rattle.crn_linear.specs.Cleared.{over}
 use Rattle.crn_feasible.specs.Sparse.{spread, Ascend, scaled, sum_of, divided, Mixes}
 
 -- ---- the multiplier at a place, and those after it

@@ -15,8 +15,9 @@ use Rattle.crn_fraction.proofs.Order.{≤ℚ_refl}
 use Rattle.crn_fraction.proofs.Ring.{ring_ℚ, q-writes}
 use Rattle.crn_fraction.proofs.Products.{whole-positive}
 use Rattle.crn_linear.specs.Rows.{Meets, IsBelow, value}
-use Rattle.crn_feasible.specs.Elimination.{Stop, refuted, passes, too_many, Kept, after, common, over, divisor, reduced, is_zero, direction, same_direction, take_row, take_rows}
-use Rattle.crn_feasible.proofs.Divisors.{Divides, Divides-common, Divides-left, over-back}
+use Rattle.crn_feasible.specs.Elimination.{Stop, refuted, passes, too_many, Kept, after, divisor, reduced, is_zero, direction, same_direction, take_row, take_rows}
+use Rattle.crn_linear.specs.Cleared.{common, over}
+use Rattle.crn_linear.proofs.Commons.{Divides, Divides-common, Divides-left, over-back}
 use Rattle.crn_farkas.proofs.Mixing.{value-times}
 use Rattle.crn_feasible.proofs.Orders.{Each, positive_times, positive_of_times}
 

@@ -8,7 +8,7 @@ use Rattle.std.specs.Cmp.Lexicographic.{pointwise}
 use Rattle.std.specs.Bool.{beq}
 use Rattle.std.proofs.Common.{zero, suc}
 use Rattle.crn_fraction.specs.Gcd.{gcd}
-use Rattle.crn_linear.specs.Cleared.{common_den, numerator_over}
+use Rattle.crn_linear.specs.Cleared.{common, over, common_den, numerator_over}
 use Rattle.crn_farkas.specs.Mixtures.{mixed}
 use Rattle.crn_fraction.specs.Rational.{ℚ, whole, neg_ℚ, ◌+ℚ◌, ◌-ℚ◌, ◌/ℚ◌, min_ℚ, max_ℚ}
 use Rattle.crn_linear.specs.Rows.{Row, value}
@@ -37,13 +37,6 @@ fits z = nat_le (unsigned_abs z) (2 ^ 59)
 
 abbrev pub fits_ℚ : ℚ → Bool
 fits_ℚ q = fits q.num && fits (pos q.den)
-
--- the greatest common divisor
-abbrev pub common : List ℤ → ℕ
-common xs = fold (λ g x. gcd g (unsigned_abs x)) 0 xs
-
-abbrev pub over : ℕ → List ℤ → List ℤ
-over g xs = map (λ x. int_div x (pos g)) xs
 
 abbrev pub divisor : Kept → ℕ
 divisor k = common (k.row.entries ++ k.multipliers)

@@ -7,7 +7,8 @@ ghost use Rattle.crn_fraction.specs.Gcd.{gcd};
 ghost use Rattle.crn_fraction.specs.Rational.{ratio};
 ghost use Rattle.crn_linear.specs.Rows.{dot, IsSmall, AreSmall};
 ghost use Rattle.crn_farkas.specs.Mixtures.{mixed};
-ghost use Rattle.crn_feasible.specs.Elimination.{common, fits, fits_ℚ};
+ghost use Rattle.crn_feasible.specs.Elimination.{fits, fits_ℚ};
+ghost use Rattle.crn_linear.specs.Cleared.{common};
 
 use crn_fraction::Frac;
 use crn_fraction::divisors::wide_gcd;

@@ -6,7 +6,8 @@ ghost use Rattle.std.specs.Ordering.{int_eq};
 ghost use Rattle.crn_linear.specs.Rows.{IsSmall, AreSmall};
 ghost use Rattle.crn_linear.specs.Views.{HasColumns, padded};
 ghost use Rattle.crn_farkas.specs.Mixtures.{mixed};
-ghost use Rattle.crn_feasible.specs.Elimination.{over, fits, kept_with, take_row, take_rows, zeros, positives, negatives, combined, without, started};
+ghost use Rattle.crn_feasible.specs.Elimination.{fits, kept_with, take_row, take_rows, zeros, positives, negatives, combined, without, started};
+ghost use Rattle.crn_linear.specs.Cleared.{over};
 ghost use Rattle.crn_feasible.specs.Steps.{Goes, Combines, Takes, Certifies, kept, kept_of, list_of, direction_of, first_row, mixed_rows, is_negative_at, IsMade, IsKeptRow, IsList, HasShape};
 ghost use Rattle.crn_feasible.specs.Sparse.{spread, IsSparse};
 

@@ -1,3 +1,5 @@
+pub mod WholeRows
+pub mod Commons
 pub mod Padding
 pub mod Signs
 pub mod Sums

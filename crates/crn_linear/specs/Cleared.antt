@@ -1,12 +1,20 @@
 -- The cleared row of a form: its positive multiple with whole entries that have no common divisor but 1, or the zero row.
-use Rattle.std.specs.Prelude.{◌≡◌, ◌⊎◌, ℕ, ◌/◌, ◌<◌, ◌≤◌, ◌^◌, ℤ, pos, ◌*ℤ◌, unsigned_abs, List, [], ◌∷◌, map, cond}
+use Rattle.std.specs.Prelude.{◌≡◌, ◌⊎◌, ℕ, ◌/◌, ◌<◌, ◌≤◌, ◌^◌, ℤ, pos, ◌*ℤ◌, unsigned_abs, int_div, List, [], ◌∷◌, map, cond}
 use Rattle.std.specs.List.{All, fold}
 use Rattle.std.specs.Int.{◌∣◌}
-use Rattle.crn_fraction.specs.Gcd.{lcm}
+use Rattle.crn_fraction.specs.Gcd.{gcd, lcm}
 use Rattle.crn_fraction.specs.Rational.{ℚ, IsLowest, ratio, whole, 0ℚ, ◌*ℚ◌, ◌/ℚ◌, ◌<ℚ◌, is_zero_ℚ}
 use Rattle.crn_fraction.specs.Parts.{ratio_lowest}
 use Rattle.std.proofs.Common.{ap}
 use Rattle.crn_linear.specs.Forms.{wholes}
+
+-- the greatest common divisor of the numbers
+abbrev pub common : List ℤ → ℕ
+common xs = fold (λ g x. gcd g (unsigned_abs x)) 0 xs
+
+-- each number over a divisor
+abbrev pub over : ℕ → List ℤ → List ℤ
+over g xs = map (λ x. int_div x (pos g)) xs
 
 -- the row is the form times a number above 0
 pub record IsMultiple (form : List ℚ) (row : List ℤ) : Type 0 where

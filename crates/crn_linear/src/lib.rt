@@ -2,18 +2,18 @@
 //! rows are exact.
 #![tactic(auto)]
 
-ghost use Rattle.std.specs.Prelude.{◌≡◌, ◌*◌, ◌<◌, ◌≤◌, ◌^◌, pos, ◌*ℤ◌, ◌<ℤ◌, unsigned_abs, length, slice_index_or, MatchOption};
+ghost use Rattle.std.specs.Prelude.{◌≡◌, ◌*◌, ◌<◌, ◌≤◌, ◌^◌, pos, ◌*ℤ◌, ◌<ℤ◌, unsigned_abs, length, slice_index_or, take, IfSome, MatchOption};
 ghost use Rattle.std.specs.List.{All};
 ghost use Rattle.std.specs.Result.{OkIff};
 ghost use Rattle.std.specs.Ordering.{int_cmp};
-ghost use Rattle.crn_fraction.specs.Rational.{ratio, ◌-ℚ◌, ◌/ℚ◌};
-ghost use Rattle.crn_linear.specs.Forms.{at, entry_of, minus, IsValueInReach};
+ghost use Rattle.crn_fraction.specs.Rational.{ratio, whole, ◌-ℚ◌, ◌/ℚ◌};
+ghost use Rattle.crn_linear.specs.Forms.{at, entry_of, minus, wholes, IsValueInReach};
 ghost use Rattle.crn_linear.specs.Rows.{dot, IsSmall, AreSmall, opposite_of};
-ghost use Rattle.crn_linear.specs.Cleared.{pivot, size_ℚ, common_den, unit_of, numerators, cleared, IsSmallFrac};
+ghost use Rattle.crn_linear.specs.Cleared.{common, over, pivot, size_ℚ, common_den, unit_of, numerators, cleared, IsSmallFrac};
 ghost use Rattle.crn_linear.specs.Views.{HasColumns, padded};
 ghost use Rattle.crn_linear.specs.Strengths.{is_strict, row_with};
 
-use crn_fraction::divisors::{lcm, wide_gcd};
+use crn_fraction::divisors::{gcd, lcm, wide_gcd};
 use crn_fraction::{Frac, TooBig};
 use std::cmp::Ordering;
 use std::marker::Model;
@@ -270,9 +270,85 @@ pub fn difference_row(a: &Form, b: &Form, strength: Strength) -> Result<Row, Too
     requires { length a.now ≡ length b.now }
     ensures { OkIff result (AreSmall (cleared (minus a.now b.now))) (row_with (cleared (minus a.now b.now)) strength) }
 {
+    if let Some(differences) = whole_differences(a, b) {
+        return Ok(whole_row(&differences[..a.len()], strength));
+    }
     let units = units_of(a, b)?;
     let common = common_den(&units)?;
     numerators(&units, common, strength)
+}
+
+// The differences of the coefficients, where all of these are whole and the differences are small.
+fn whole_differences(a: &Form, b: &Form) -> Option<[i64; 9]>
+    requires { length a.now ≡ length b.now }
+    ensures { IfSome result (λ places. AreSmall (take (length a.now) places)
+        × (minus a.now b.now ≡ wholes (take (length a.now) places))) }
+{
+    let mut differences = [0i64; 9];
+    for i in 0..a.len() {
+        differences[i] = whole_difference(a.coeff(i), b.coeff(i))?;
+    }
+    Some(differences)
+}
+
+// The difference of two whole numbers, where it is small.
+fn whole_difference(a: Frac, b: Frac) -> Option<i64>
+    ensures { IfSome result (λ n. IsSmall n × (a -ℚ b ≡ whole n)) }
+{
+    if a.den() != 1 || b.den() != 1 {
+        return None;
+    }
+    let difference = a.num().checked_sub(b.num())?;
+    if difference.unsigned_abs() as u128 > LIMIT {
+        return None;
+    }
+    Some(difference)
+}
+
+// The row of small whole numbers: each over the greatest common divisor.
+fn whole_row(numbers: &[i64], strength: Strength) -> Row
+    requires columns { HasColumns numbers.now }
+    requires small { AreSmall numbers.now }
+    ensures small { AreSmall (cleared (wholes numbers.now)) }
+    ensures value { result ≡ row_with (cleared (wholes numbers.now)) strength }
+{
+    let divisor = common(numbers);
+    if divisor <= 1 {
+        return Row::of(numbers, strength);
+    }
+    let parts = over(numbers, divisor);
+    Row::of(&parts[..numbers.len()], strength)
+}
+
+// The greatest common divisor.
+fn common(numbers: &[i64]) -> u64
+    requires { AreSmall numbers.now }
+    ensures value { result ≡ common numbers.now }
+    ensures small { result ≤ 2 ^ 59 }
+{
+    let mut common = 0u64;
+    for number in numbers {
+        if common == 1 {
+            return 1;
+        }
+        common = gcd(common, number.unsigned_abs());
+    }
+    common
+}
+
+// Each number over a divisor, and 0 past the last.
+fn over(numbers: &[i64], divisor: u64) -> [i64; 9]
+    requires columns { HasColumns numbers.now }
+    requires small { AreSmall numbers.now }
+    requires some { 0 < divisor }
+    requires divisor { divisor ≤ 2 ^ 59 }
+    ensures { result ≡ padded (pos 0) (over divisor numbers.now) }
+{
+    let mut parts = [0i64; 9];
+    for i in 0..numbers.len() {
+        parts[i] = numbers[i] / divisor as i64;
+    }
+    parts
 }
 
 // A fraction in lowest terms with parts of up to 127 bits, as the difference of two fractions has.

@@ -2,10 +2,11 @@ use Rattle.std.proofs.Common.{arith, rules, ap, ap₂, ◌∙◌, ◌≡◌, ◌
 use Rattle.std.specs.Prelude.{pos, ◌+ℤ◌, ◌*ℤ◌, unsigned_abs}
 use Rattle.std.specs.Int.{w64, w128}
 use Rattle.std.proofs.lemmas.Int.{to_z-of_z}
-use Rattle.crn_feasible.specs.Elimination.{common}
+use Rattle.crn_linear.specs.Cleared.{common}
 use Rattle.crn_farkas.specs.Mixtures.{mixed}
 use Rattle.crn_fraction.specs.Gcd.{gcd}
-use Rattle.crn_feasible.proofs.Commons.{mixed_more, mixed_all, gcd_small, one_ends}
+use Rattle.crn_feasible.proofs.Commons.{mixed_more, mixed_all}
+use Rattle.crn_linear.proofs.Commons.{gcd_small, one_ends}
 use Rattle.crn_feasible.proofs.numbers.common_of.Goals as goal
 
 pub loop-i-preserved : goal.loop-i-preserved

@@ -1,5 +1,5 @@
 use Rattle.std.proofs.Common.{◌≡◌, ◌≤◌, ◌^◌, take}
-use Rattle.crn_feasible.specs.Elimination.{common}
+use Rattle.crn_linear.specs.Cleared.{common}
 use Rattle.crn_farkas.specs.Mixtures.{mixed}
 use Rattle.crn_feasible.proofs.numbers.common_of.Given as goal
 

@@ -3,7 +3,7 @@ use Rattle.std.specs.Prelude.{unsigned_abs}
 use Rattle.std.specs.Int.{w128}
 use Rattle.std.proofs.lemmas.Int.{to_z-of_z}
 use Rattle.crn_fraction.specs.Gcd.{gcd}
-use Rattle.crn_feasible.proofs.Commons.{gcd_small}
+use Rattle.crn_linear.proofs.Commons.{gcd_small}
 use Rattle.crn_feasible.proofs.numbers.common_of_two.Goals as goal
 
 pub returns-clause-small : goal.returns-clause-small

@@ -2,7 +2,8 @@ use Rattle.std.proofs.Common.{ap, ◌≡◌, ◌≤◌, ◌^◌, ◌∙◌, to_z
 use Rattle.std.specs.Prelude.{ℤ, pos, int_div, unsigned_abs}
 use Rattle.std.specs.Int.{w64, w128}
 use Rattle.std.proofs.lemmas.Int.{ints, fits_signed_from_abs}
-use Rattle.crn_feasible.proofs.Quotients.{no_quotient, quotient_small}
+use Rattle.crn_feasible.proofs.Quotients.{no_quotient}
+use Rattle.crn_linear.proofs.Commons.{quotient_small}
 use Rattle.crn_feasible.proofs.numbers.over.Goals.{After-quotient}
 use Rattle.crn_feasible.proofs.numbers.over.Goals as goal
 

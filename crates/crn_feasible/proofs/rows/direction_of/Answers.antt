@@ -3,7 +3,8 @@ use Rattle.std.specs.Prelude.{pos, int_div}
 use Rattle.std.specs.Int.{w64}
 use Rattle.std.proofs.lemmas.Int.{to_z-of_z}
 use Rattle.crn_linear.proofs.Padding.{padding_step, padding_end}
-use Rattle.crn_feasible.specs.Elimination.{common, direction}
+use Rattle.crn_feasible.specs.Elimination.{direction}
+use Rattle.crn_linear.specs.Cleared.{common}
 use Rattle.crn_feasible.proofs.Directions.{mixed-one, length-direction, get_or-direction}
 use Rattle.crn_feasible.proofs.rows.direction_of.Goals as goal
 

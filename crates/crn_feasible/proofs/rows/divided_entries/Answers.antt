@@ -10,9 +10,11 @@ use Rattle.crn_linear.specs.Rows.{IsSmall, AreSmall}
 use Rattle.crn_linear.specs.Views.{padded}
 use Rattle.crn_farkas.specs.Mixtures.{mixed}
 use Rattle.crn_farkas.proofs.Mixing.{get_or-mixed}
-use Rattle.crn_feasible.specs.Elimination.{over, fits}
-use Rattle.crn_feasible.proofs.Certificates.{length-over, length-mixed}
-use Rattle.crn_feasible.proofs.Points.{get_or-over}
+use Rattle.crn_feasible.specs.Elimination.{fits}
+use Rattle.crn_linear.specs.Cleared.{over}
+use Rattle.crn_feasible.proofs.Certificates.{length-mixed}
+use Rattle.crn_linear.proofs.Commons.{length-over}
+use Rattle.crn_linear.proofs.Commons.{get_or-over}
 use Rattle.crn_feasible.proofs.Quotients.{refused_at}
 use Rattle.crn_feasible.proofs.Turns.{itself}
 use Rattle.crn_feasible.proofs.rows.divided_entries.Goals.{After-over_divisor}

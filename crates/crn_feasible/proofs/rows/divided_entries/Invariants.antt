@@ -2,7 +2,7 @@ use Rattle.std.proofs.Common.{◌≡◌, ◌-◌, ◌++◌, take}
 use Rattle.std.specs.Prelude.{replicate, pos}
 use Rattle.crn_farkas.specs.Mixtures.{mixed}
 use Rattle.crn_linear.specs.Rows.{AreSmall}
-use Rattle.crn_feasible.specs.Elimination.{over}
+use Rattle.crn_linear.specs.Cleared.{over}
 use Rattle.crn_feasible.proofs.rows.divided_entries.Given as goal
 
 abbrev pub invariant-loop-i : goal.invariant-loop-i
