@@ -16,7 +16,3 @@ mixed-one (x ∷ xs) = let e : pos 1 *ℤ x +ℤ pos 0 *ℤ x ≡ x = omega (ari
 pub length-direction : (xs : List ℤ) → length (direction xs) ≡ length xs
 unfolding direction
 length-direction xs = length-over (common xs) xs
-
-pub get_or-direction : (xs : List ℤ) (i : ℕ) → get_or (direction xs) i (pos 0) ≡ int_div (get_or xs i (pos 0)) (pos (common xs))
-unfolding direction
-get_or-direction xs i = get_or-over (common xs) xs i

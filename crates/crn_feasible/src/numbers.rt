@@ -134,18 +134,6 @@ pub fn over_divisor(number: i128, divisor: u128) -> Option<i64>
     Some(quotient as i64)
 }
 
-/// A small number over the divisor, and 0 over 0.
-pub fn over(number: i64, divisor: u128) -> i64
-    requires number_small { IsSmall number }
-    requires divisor_small { divisor ≤ 2 ^ 119 }
-    ensures { result ≡ int_div number (pos divisor) }
-{
-    if divisor == 0 {
-        return 0;
-    }
-    quotient(number as i128, divisor) as i64
-}
-
 /// The quotient of two whole numbers, where its lowest terms are at most 2^59 in size.
 pub fn small_ratio(num: i128, den: u128) -> Option<Frac>
     requires positive { 0 < den }

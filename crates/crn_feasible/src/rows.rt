@@ -12,9 +12,9 @@ ghost use Rattle.crn_feasible.specs.Steps.{Goes, Combines, Takes, Certifies, kep
 ghost use Rattle.crn_feasible.specs.Sparse.{spread, IsSparse};
 
 use crate::multipliers::{divide_multipliers, mix_multipliers, spread};
-use crate::numbers::{common_of, common_with, mix, over, over_divisor};
+use crate::numbers::{common_of, common_with, mix, over_divisor};
 use crn_farkas::{Certificate, System};
-use crn_linear::{Row, Strength};
+use crn_linear::{Row, Strength, without_divisor};
 use indexmap::IndexSet;
 use std::alloc::{AllocError, Global};
 
@@ -83,13 +83,8 @@ fn direction_of(entries: &[i64], strict: bool) -> Direction
     requires few { length entries.now ≤ 9 }
     ensures { result ≡ direction_of entries.now strict }
 {
-    let common = common_of(1, entries, 0, entries);
-    let mut places = [0i64; 9];
-    for i in 0..entries.len() {
-        places[i] = over(entries[i], common);
-    }
     Direction {
-        entries: places,
+        entries: without_divisor(entries),
         strict,
     }
 }

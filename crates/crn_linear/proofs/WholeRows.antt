@@ -1,5 +1,5 @@
 -- The cleared row of whole numbers: each over their greatest common divisor.
-use Rattle.std.proofs.Common.{◌≡◌, ⊎_elim, inl, inr, ℕ, zero, suc, ◌*◌, ◌<◌, ◌≤◌, List, [], ◌∷◌, length, get_or, map, refl, sym, ap, ap₂, ◌∙◌, subst, arith}
+use Rattle.std.proofs.Common.{◌-◌, ◌≡◌, ⊎_elim, inl, inr, ℕ, zero, suc, ◌*◌, ◌<◌, ◌≤◌, List, [], ◌∷◌, length, get_or, map, refl, sym, ap, ap₂, ◌∙◌, subst, arith}
 use Rattle.std.specs.Prelude.{ℤ, pos, ◌*ℤ◌, unsigned_abs, int_div}
 use Rattle.std.specs.List.{All}
 use Rattle.std.specs.Int.{◌∣◌}
@@ -17,6 +17,8 @@ use Rattle.crn_linear.specs.Forms.{wholes}
 use Rattle.crn_linear.specs.Rows.{IsSmall, AreSmall}
 use Rattle.crn_linear.specs.Cleared.{common, over, HaveNoDivisor, cleared}
 use Rattle.crn_linear.proofs.Commons.{Divides, Divides-all, Divides-common, common-greatest, div_back, length-over, get_or-over, quotient_small}
+use Rattle.std.proofs.Math.Nat.{zero-div}
+use Rattle.crn_fraction.specs.Parts.{int_div-one}
 use Rattle.crn_linear.proofs.Minus.{all_of}
 use Rattle.crn_linear.proofs.Unique.{cleared_only}
 
@@ -56,8 +58,7 @@ no_divisor xs p d h =
     let all : d * g ∣ g = common-greatest (d * g) xs (grown d g xs (Divides-common xs) (Divides-all d (over g xs) h)) in
     eq-one_of_dvd-one (dvd_of_mul-dvd-mul_right d p (subst (λ n. d * g ∣ n) (omega arith) all))
 
--- the numbers over their greatest common divisor are the cleared row
-pub cleared_over : (xs : List ℤ) → 0 < common xs → over (common xs) xs ≡ cleared (wholes xs)
+cleared_over : (xs : List ℤ) → 0 < common xs → over (common xs) xs ≡ cleared (wholes xs)
 cleared_over xs p = cleared_only (wholes xs) (over (common xs) xs) (record {
   multiple = record {
     factor = ratio (pos 1) (common xs);
@@ -71,25 +72,47 @@ ones : (xs : List ℚ) → xs ≡ map (λ x. whole (pos 1) *ℚ x) xs
 ones [] = refl
 ones (x ∷ xs) = ap₂ (λ y ys. y ∷ ys) (ring_ℚ (x ∷ []) {y = whole (pos 1) *ℚ x} (search q-writes depth 20) (search q-writes depth 20) refl) (ones xs)
 
+zero_size : (z : ℤ) → unsigned_abs z ≡ 0 → z ≡ pos 0
+zero_size z h = omega (arith, ints)
+
 zeros : (xs : List ℤ) → common xs ≡ 0 → All (λ n. n ≡ pos 0) xs
 zeros xs e = all_of (λ n. n ≡ pos 0) xs (pos 0) (λ i l. zero_size _ (eq-zero_of_zero-dvd (subst (λ k. k ∣ unsigned_abs (get_or xs i (pos 0))) e (each (common xs) xs i l (Divides-common xs)))))
   where
-    zero_size : (z : ℤ) → unsigned_abs z ≡ 0 → z ≡ pos 0
-    zero_size z h = omega (arith, ints)
-
     each : (k : ℕ) (xs : List ℤ) (i : ℕ) → i < length xs → Divides k xs → k ∣ unsigned_abs (get_or xs i (pos 0))
     each k [] i l h = absurd (omega arith)
     each k (x ∷ xs) zero l h = h.0
     each k (x ∷ xs) (suc i) l h = each k xs i (omega arith) h.1
 
 -- numbers that have no common divisor above 1 are their own cleared row
-pub cleared_as_is : (xs : List ℤ) → common xs ≤ 1 → xs ≡ cleared (wholes xs)
+cleared_as_is : (xs : List ℤ) → common xs ≤ 1 → xs ≡ cleared (wholes xs)
 cleared_as_is xs h = cleared_only (wholes xs) xs (record {
   multiple = record { factor = whole (pos 1); positive = whole_positive 1 (omega arith); same = ones (wholes xs) };
   lowest = ⊎_elim (λ e. inr (zeros xs e)) (λ p. inl (λ d all.
       let one : common xs ≡ 1 = omega arith in
       eq-one_of_dvd-one (subst (λ n. d ∣ n) one (common-greatest d xs (Divides-all d xs all))))) (eq-zero-or-pos (common xs));
 })
+
+-- numbers that have no common divisor above 1 stay as they are over it
+as_is : (g : ℕ) (xs : List ℤ) → g ≤ 1 → Divides g xs → over g xs ≡ xs
+as_is g [] l h = refl
+as_is g (x ∷ xs) l h = ap₂ (λ y ys. y ∷ ys) (part g x l h.0) (as_is g xs l h.1)
+  where
+    part : (g : ℕ) (x : ℤ) → g ≤ 1 → g ∣ unsigned_abs x → int_div x (pos g) ≡ x
+    part zero x l h =
+        let none : x ≡ pos 0 = zero_size x (eq-zero_of_zero-dvd h) in
+        ap (λ z. int_div z (pos 0)) none ∙ ap pos (zero-div 0) ∙ sym none
+    part (suc g) x l h =
+        let one : suc g ≡ 1 = omega arith in
+        ap (λ n. int_div x (pos n)) one ∙ int_div-one x
+
+pub over-as_is : (xs : List ℤ) → common xs ≤ 1 → over (common xs) xs ≡ xs
+over-as_is xs l = as_is (common xs) xs l (Divides-common xs)
+
+-- the cleared row of whole numbers
+pub cleared_wholes : (xs : List ℤ) → over (common xs) xs ≡ cleared (wholes xs)
+cleared_wholes xs =
+    ⊎_elim (λ e. let h : common xs ≤ 1 = omega (arith, e) in over-as_is xs h ∙ cleared_as_is xs h) (λ p. cleared_over xs (omega (arith, p)))
+    (eq-zero-or-pos (common xs - 1))
 
 -- small numbers over a divisor are small
 pub small_over : (g : ℕ) (xs : List ℤ) → AreSmall xs → AreSmall (over g xs)

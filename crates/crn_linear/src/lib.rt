@@ -305,19 +305,28 @@ fn whole_difference(a: Frac, b: Frac) -> Option<i64>
     Some(difference)
 }
 
-// The row of small whole numbers: each over the greatest common divisor.
+// The row of small whole numbers.
 fn whole_row(numbers: &[i64], strength: Strength) -> Row
     requires columns { HasColumns numbers.now }
     requires small { AreSmall numbers.now }
     ensures small { AreSmall (cleared (wholes numbers.now)) }
     ensures value { result ≡ row_with (cleared (wholes numbers.now)) strength }
 {
+    let parts = without_divisor(numbers);
+    Row::of(&parts[..numbers.len()], strength)
+}
+
+/// Small numbers over their greatest common divisor, and 0 past the last. Zeros stay as they are.
+pub fn without_divisor(numbers: &[i64]) -> [i64; 9]
+    requires few { length numbers.now ≤ 9 }
+    requires small { AreSmall numbers.now }
+    ensures { result ≡ padded (pos 0) (over (common numbers.now) numbers.now) }
+{
     let divisor = common(numbers);
     if divisor <= 1 {
-        return Row::of(numbers, strength);
+        return nine(numbers);
     }
-    let parts = over(numbers, divisor);
-    Row::of(&parts[..numbers.len()], strength)
+    over(numbers, divisor)
 }
 
 // The greatest common divisor.
@@ -338,7 +347,7 @@ fn common(numbers: &[i64]) -> u64
 
 // Each number over a divisor, and 0 past the last.
 fn over(numbers: &[i64], divisor: u64) -> [i64; 9]
-    requires columns { HasColumns numbers.now }
+    requires few { length numbers.now ≤ 9 }
     requires small { AreSmall numbers.now }
     requires some { 0 < divisor }
     requires divisor { divisor ≤ 2 ^ 59 }
@@ -566,7 +575,7 @@ fn lowest_terms(num: i128, den: u128) -> (i128, u128)
 
 // The entries with 0 past the last.
 fn nine(entries: &[i64]) -> [i64; 9]
-    requires { HasColumns entries.now }
+    requires { length entries.now ≤ 9 }
     ensures { result ≡ padded (pos 0) entries.now }
 {
     let mut places = [0i64; 9];

@@ -31,5 +31,5 @@ loop-i-preserved c =
     let long = length-over g xs in
     let size : unsigned_abs x ≤ 2 ^ 59 = (c.requires.small i (pos 0) c.loop-i-test.true).size in
     let small = quotient_small x g size in
-    padding_step (pos 0) (over g xs) _ i _ (omega (arith, long, c.loop-i-test.true)) (omega (arith, long, c.requires.columns.few))
+    padding_step (pos 0) (over g xs) _ i _ (omega (arith, long, c.loop-i-test.true)) (omega (arith, long, c.requires.few))
     (part x g size small c.requires.divisor ∙ sym (get_or-over g xs i)) c.loop-i.invariant
