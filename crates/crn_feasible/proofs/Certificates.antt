@@ -16,7 +16,7 @@ use Rattle.crn_linear.specs.Cleared.{over}
 use Rattle.crn_farkas.specs.Mixtures.{mixed}
 use Rattle.crn_linear.specs.Cleared.{common_den}
 use Rattle.crn_linear.proofs.Sums.{dot-zeros}
-use Rattle.crn_linear.proofs.Commons.{Divides, Divides-common, Divides-right, over-back}
+use Rattle.crn_linear.proofs.Commons.{Divides, Divides-common, Divides-right, over-back, length-over}
 use Rattle.crn_farkas.proofs.Mixing.{dot-times, dot-mixed, get_or-times, get_or-mixed}
 use Rattle.crn_farkas.proofs.Motzkin.{IsNonnegative}
 use Rattle.crn_feasible.proofs.Orders.{Each, Each-weaker}

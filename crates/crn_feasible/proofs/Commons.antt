@@ -1,17 +1,14 @@
 -- The greatest common divisor of mixed rows, number by number.
-use Rattle.std.proofs.Common.{◌≡◌, ⊎_elim, ℕ, zero, suc, ◌+◌, ◌<◌, ◌≤◌, List, [], ◌∷◌, length, get_or, take, drop, refl, sym, ap, ap₂, ◌∙◌, arith, to_z, of_z, ◌^◌}
+use Rattle.std.proofs.Common.{◌≡◌, ℕ, zero, suc, ◌+◌, ◌<◌, ◌≤◌, List, [], ◌∷◌, length, get_or, take, drop, refl, sym, ap, ◌∙◌, arith, to_z, of_z, ◌^◌}
 use Rattle.std.specs.Prelude.{ℤ, pos, ◌+ℤ◌, ◌*ℤ◌, unsigned_abs}
 use Rattle.std.specs.List.{fold}
-use Rattle.std.proofs.Math.Nat.{le_of_dvd, eq-zero-or-pos, eq-one_of_dvd-one}
 use Rattle.crn_linear.proofs.Commons.{common_more, from_one}
-use Rattle.std.proofs.lemmas.List.Sums.{fold_more}
 use Rattle.std.proofs.lemmas.List.{take_all}
 use Rattle.std.proofs.lemmas.Int.{ints}
 use Rattle.std.specs.Int.{w128}
-use Rattle.crn_fraction.specs.Gcd.{gcd, IsGcd-gcd}
+use Rattle.crn_fraction.specs.Gcd.{gcd}
 use Rattle.crn_linear.specs.Cleared.{common}
 use Rattle.crn_farkas.specs.Mixtures.{mixed}
-use Rattle.crn_fraction.proofs.Euclid.{gcd_end}
 use Rattle.crn_farkas.proofs.Mixing.{get_or-mixed}
 use Rattle.crn_feasible.proofs.Certificates.{length-mixed}
 

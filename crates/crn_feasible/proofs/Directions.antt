@@ -1,11 +1,10 @@
--- The direction of a row, as the code finds it.
-use Rattle.std.proofs.Common.{◌≡◌, ℕ, List, [], ◌∷◌, length, get_or, refl, ap₂, arith}
-use Rattle.std.specs.Prelude.{ℤ, pos, int_div, ◌+ℤ◌, ◌*ℤ◌}
+-- A list mixed with itself, and the length of a direction.
+use Rattle.std.proofs.Common.{◌≡◌, List, [], ◌∷◌, length, refl, ap₂, arith}
+use Rattle.std.specs.Prelude.{ℤ, pos, ◌+ℤ◌, ◌*ℤ◌}
 use Rattle.std.proofs.lemmas.Int.{ints}
 use Rattle.crn_farkas.specs.Mixtures.{mixed}
 use Rattle.crn_feasible.specs.Elimination.{direction}
 use Rattle.crn_linear.specs.Cleared.{common}
-use Rattle.crn_linear.proofs.Commons.{get_or-over}
 use Rattle.crn_linear.proofs.Commons.{length-over}
 
 -- once a list and not at all another

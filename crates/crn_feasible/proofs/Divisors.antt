@@ -1,15 +1,9 @@
 -- The value of a row at a point with one more coordinate.
-use Rattle.std.proofs.Common.{◌≡◌, ℕ, suc, ◌*◌, ◌/◌, List, [], ◌∷◌, ◌++◌, length, get_or, map, refl, ap, ap₂, ◌∙◌, arith}
-use Rattle.std.specs.Prelude.{ℤ, pos, negsuc, neg_ℤ, ◌*ℤ◌, unsigned_abs, int_div}
-use Rattle.std.specs.List.{fold}
-use Rattle.std.specs.Int.{◌∣◌}
-use Rattle.std.proofs.Math.Nat.{div-mul_cancel, dvd_refl, dvd_trans}
-use Rattle.crn_fraction.specs.Gcd.{gcd, IsGcd-gcd}
+use Rattle.std.proofs.Common.{◌≡◌, List, [], ◌∷◌, ◌++◌, length, get_or, refl}
+use Rattle.std.specs.Prelude.{ℤ, pos}
 use Rattle.crn_fraction.specs.Rational.{ℚ, whole, ◌+ℚ◌, ◌*ℚ◌}
-use Rattle.crn_fraction.proofs.Integers.{ring_ℤ, z-writes}
 use Rattle.crn_fraction.proofs.Ring.{ring_ℚ, q-writes}
 use Rattle.crn_linear.specs.Rows.{value}
-use Rattle.crn_linear.specs.Cleared.{over, common}
 
 -- ---- at no point
 pub value-nil : (as_ : List ℤ) → value as_ [] ≡ whole (pos 0)

@@ -20,8 +20,8 @@ use Rattle.crn_linear.proofs.Multiples.{numerator_is}
 use Rattle.crn_linear.proofs.WholePoints.{meets_whole}
 use Rattle.crn_linear.specs.Rows.{Row, Meets, MeetsWhole, IsBelow, value}
 use Rattle.crn_farkas.specs.Systems.{System, IsRectangular, IsWholePoint}
+use Rattle.crn_linear.proofs.Commons.{get_or-over}
 use Rattle.crn_feasible.specs.Elimination.{Kept, after, reduced, divisor, is_zero, take_rows, entry, zeros, positives, negatives, combined, without, bound, between, numerators_over, next, coordinates, started, elimination}
-use Rattle.crn_linear.specs.Cleared.{over}
 use Rattle.crn_linear.specs.Cleared.{common_den}
 use Rattle.crn_farkas.proofs.Mixing.{get_or-mixed}
 use Rattle.crn_feasible.proofs.Long.{next_is, coordinates-long}

@@ -3,8 +3,7 @@ use Rattle.std.proofs.Common.{◌≡◌, ⊎_elim, ℕ, zero, suc, ◌<◌, ◌�
 use Rattle.std.specs.Prelude.{ℤ, pos, negsuc, unsigned_abs, int_div, neg_ℤ, ◌+ℤ◌, ◌*ℤ◌, ◌/◌, ◌&&◌}
 use Rattle.std.specs.List.{list_all}
 use Rattle.std.specs.Int.{w64, w128}
-use Rattle.std.proofs.Math.Nat.{div-zero, div-le_self, eq-zero-or-pos}
-use Rattle.crn_fraction.specs.Rational.{unsigned_abs-int_div}
+use Rattle.std.proofs.Math.Nat.{div-zero, eq-zero-or-pos}
 use Rattle.std.proofs.lemmas.Int.{ints, to_z-of_z, quot_fits, fits_signed_from_abs}
 use Rattle.std.proofs.lemmas.Bool.{and_right, lt-leb}
 use Rattle.crn_linear.specs.Rows.{IsSmall}

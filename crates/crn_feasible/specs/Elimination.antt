@@ -1,13 +1,12 @@
 -- Elimination of the columns of a system from the last to the first, with a certificate where it is refuted
 -- and a chosen point where it is not. It stops where a number passes 2^59 in size, or where a list has more
 -- than 4,096 rows.
-use Rattle.std.specs.Prelude.{ℕ, ◌≤◌, ◌^◌, Bool, true, cond, not, ◌&&◌, nat_le, ℤ, pos, neg_ℤ, int_lt, int_div, unsigned_abs, List, [], ◌∷◌, ◌++◌, length, map, slice_index_or, replicate, Result, Ok, Err}
+use Rattle.std.specs.Prelude.{ℕ, ◌≤◌, ◌^◌, Bool, true, cond, not, ◌&&◌, nat_le, ℤ, pos, neg_ℤ, int_lt, unsigned_abs, List, [], ◌∷◌, ◌++◌, length, map, slice_index_or, replicate, Result, Ok, Err}
 use Rattle.std.specs.List.{All, fold, filter, list_any, list_all, flat_map}
 use Rattle.std.specs.Ordering.{int_eq}
 use Rattle.std.specs.Cmp.Lexicographic.{pointwise}
 use Rattle.std.specs.Bool.{beq}
 use Rattle.std.proofs.Common.{zero, suc}
-use Rattle.crn_fraction.specs.Gcd.{gcd}
 use Rattle.crn_linear.specs.Cleared.{common, over, common_den, numerator_over}
 use Rattle.crn_farkas.specs.Mixtures.{mixed}
 use Rattle.crn_fraction.specs.Rational.{ℚ, whole, neg_ℚ, ◌+ℚ◌, ◌-ℚ◌, ◌/ℚ◌, min_ℚ, max_ℚ}

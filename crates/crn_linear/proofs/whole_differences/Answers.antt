@@ -45,10 +45,10 @@ returns c =
     let all_long : length (wholes (take len places)) ≡ len = length-map (take len places) whole ∙ long in
     let below : (k : ℕ) → k < len → k < c.loop-i.i = λ k l. omega (arith, c.loop-i-test.false, c.len-i-end.ensures.value) in (
       all_of IsSmall (take len places) (pos 0) (λ k l.
-      let under : k < len = omega (arith, long) in
-      subst IsSmall (sym (get_or-take len places k (pos 0) under)) (c.loop-i.invariant.each k (below k under)).0),
+          let under : k < len = omega (arith, long) in
+          subst IsSmall (sym (get_or-take len places k (pos 0) under)) (c.loop-i.invariant.each k (below k under)).0),
       ext_get_or 0ℚ form (wholes (take len places)) (as_long ∙ sym all_long) (λ k l.
-      let under : k < len = omega (arith, as_long) in
-      let taken : k < length (take len places) = omega (arith, long) in
-      (c.loop-i.invariant.each k (below k under)).1 ∙ ap whole (sym (get_or-take len places k (pos 0) under)) ∙ sym (get_or-map whole (take len places) k (pos 0) 0ℚ taken)),
+          let under : k < len = omega (arith, as_long) in
+          let taken : k < length (take len places) = omega (arith, long) in
+          (c.loop-i.invariant.each k (below k under)).1 ∙ ap whole (sym (get_or-take len places k (pos 0) under)) ∙ sym (get_or-map whole (take len places) k (pos 0) 0ℚ taken)),
     )
