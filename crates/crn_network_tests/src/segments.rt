@@ -92,6 +92,7 @@ fn refused_steps_change_nothing(rt: HostRuntime) -> Result<(), Fail> {
             },
         ),
         (&[(1, 2)], StepError::TakesMore { species: 1 }),
+        (&[(1, i64::MAX)], StepError::TooBig { species: 1 }),
     ] {
         let segment = segment(rt.alloc(), flows)?;
         assert!(rt; replay.step(&segment) == Err(refusal), "{refusal}");

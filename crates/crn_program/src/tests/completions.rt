@@ -623,21 +623,6 @@ input 9/2 0
     Ok(())
 }
 
-// A text that ends with its last line is whole without the line feed, and without the 0 of its last amount it is not.
-#[test]
-fn a_text_without_its_last_line_feed(rt: HostRuntime) -> Result<(), Fail> {
-    let (status, written) = answered(rt.alloc(), &["complete"], HALVES)?;
-    assert_eq!(rt; status, Status::Done);
-    let Some(front) = HALVES.get(..71) else {
-        assert!(rt; false, "the text is longer");
-        return Ok(());
-    };
-    let (again, same) = answered(rt.alloc(), &["complete"], front)?;
-    assert_eq!(rt; again, Status::Done);
-    assert!(rt; same == written);
-    Ok(())
-}
-
 // As many given segments as a text may have, and one more.
 #[test]
 fn many_segments(rt: HostRuntime) -> Result<(), Fail> {

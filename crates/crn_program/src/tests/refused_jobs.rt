@@ -1,6 +1,8 @@
 //! `complete`: jobs that are refused, with the refusals that are written.
-use super::{HALVES, answers};
+use super::{HALVES, HALVES_REPORT, answers};
 use crate::status::Status;
+use std::alloc::Global;
+use std::process::Abort;
 use std::test::Fail;
 
 #[test]
@@ -193,33 +195,44 @@ input 1/9223372036854775807 1/9223372036854775806
     Ok(())
 }
 
-// A text that is cut short is malformed at the line that is cut, or at the line past the last.
+// The text of the halves, cut after so many bytes, at least and not, is answered so.
+fn cut_short(
+    rt: &impl Abort,
+    alloc: Global,
+    least: usize,
+    past: usize,
+    status: Status,
+    written: &str,
+) -> Result<(), Fail> {
+    for count in least..past {
+        let Some(front) = HALVES.get(..count) else {
+            assert!(rt; false, "the text is longer");
+            return Ok(());
+        };
+        answers(rt, alloc, &["complete"], front, status, written)?;
+    }
+    Ok(())
+}
+
+// A text of 71 bytes that is cut short is malformed at the line that is cut, or at the line past the last. Without its last line feed it is whole.
 #[test]
 fn texts_cut_short(rt: HostRuntime) -> Result<(), Fail> {
-    for (least, past, line) in [
-        (0usize, 16usize, 1u32),
-        (16, 28, 2),
-        (28, 46, 3),
-        (46, 58, 4),
-        (58, 59, 5),
-        (59, 60, 4),
-        (60, 70, 5),
+    for (least, past, status, written) in [
+        (
+            0usize,
+            16usize,
+            Status::Malformed,
+            "refused: malformed line 1\n",
+        ),
+        (16, 28, Status::Malformed, "refused: malformed line 2\n"),
+        (28, 46, Status::Malformed, "refused: malformed line 3\n"),
+        (46, 58, Status::Malformed, "refused: malformed line 4\n"),
+        (58, 59, Status::Malformed, "refused: malformed line 5\n"),
+        (59, 60, Status::Malformed, "refused: malformed line 4\n"),
+        (60, 70, Status::Malformed, "refused: malformed line 5\n"),
+        (70, 72, Status::Done, HALVES_REPORT),
     ] {
-        let refusal = format!(in rt.alloc(); "refused: malformed line {line}\n")?;
-        for count in least..past {
-            let Some(front) = HALVES.get(..count) else {
-                assert!(rt; false, "the text is longer");
-                return Ok(());
-            };
-            answers(
-                &rt,
-                rt.alloc(),
-                &["complete"],
-                front,
-                Status::Malformed,
-                refusal.as_str(),
-            )?;
-        }
+        cut_short(&rt, rt.alloc(), least, past, status, written)?;
     }
     Ok(())
 }
