@@ -1,7 +1,6 @@
 //! Texts of a function and a proof that its pieces cover its domain and agree on it.
 
-ghost use Rattle.std.specs.Prelude.{◌≡◌, ◌≤◌, length, vec_len, IfOk};
-ghost use Rattle.crn_token.specs.Lines.{AreLinesOf};
+ghost use Rattle.std.specs.Prelude.{◌≡◌, length, IfOk};
 ghost use Rattle.crn_token.specs.Plain.{plain_lines, line_number, end_of};
 ghost use Rattle.crn_grammar.specs.Table.{IsText, PassesNone, IsAnswer};
 ghost use Rattle.crn_grammar.specs.Table as table;
@@ -11,18 +10,19 @@ ghost use Rattle.crn_formula.specs.Domains.{domain_for};
 ghost use Rattle.crn_formula.specs.Views.{kind_of};
 ghost use Rattle.crn_function_text.specs.Reading.{function_of};
 ghost use Rattle.crn_pieces.specs.Views.{pieces_in};
-ghost use Rattle.crn_cert_text.specs.Text.{proof_answer};
+ghost use Rattle.crn_cert_text.specs.Text.{lines_answer};
 ghost use Rattle.crn_cert_text.specs.Answers.{IsMade};
 ghost use Rattle.crn_cert_text.specs.Views.{lines_of_proof};
 ghost use Rattle.crn_cert_text.specs.ProvedText.{PlainProved, proved_table, proved_answer, proved_with, proved_of, proved_text, printed_proof};
 ghost use Rattle.crn_cert_text.specs.TextAnswers.{IsAcceptedText};
 
-use crate::{Proof, ProofTextError, print_proof, read_proof};
+use crate::read::read_lines;
+use crate::{Proof, ProofTextError, print_proof};
 use crn_formula::Function;
-use crn_function_text::{print_function, read_function_lines};
+use crn_function_text::{print_function, read_function_part};
 use crn_grammar::TextError;
 use crn_pieces::Checked;
-use crn_token::{Lines, token_lines};
+use crn_token::{LineSource, TextLines};
 use std::alloc::{AllocError, Global};
 
 /// A function and a proof.
@@ -55,31 +55,29 @@ pub fn read_text(alloc: Global, bytes: &[u8]) -> Result<Proved, TextError>
     ensures domain { IfOk result (λ p. p.function.domain ≡ domain_for p.function.variables (kind_of p.function.kind)) }
     ensures end { IfOk result (λ p. p.end ≡ end_of bytes.now) }
 {
-    let lines = token_lines(alloc, bytes)?;
-    let (function, next) = read_function_lines(alloc, bytes, &lines, 0)?;
-    read_rest(alloc, bytes, &lines, function, next)
+    let mut source = TextLines::new(alloc, bytes)?;
+    let function = read_function_part(alloc, bytes, &mut source)?;
+    read_rest(alloc, bytes, &mut source, function)
 }
 
-// This function and the proof of the lines after it.
-fn read_rest(
+// This function and the proof of the lines that are left.
+fn read_rest<S: LineSource>(
     alloc: Global,
     bytes: &[u8],
-    lines: &Lines,
+    source: &mut S,
     function: Function,
-    from: usize,
 ) -> Result<Proved, TextError>
-    requires lines { AreLinesOf bytes.now lines.now }
-    requires from { from ≤ vec_len lines.now.lines }
+    requires text { S.text source.old ≡ bytes.now }
     ensures answer { Gives proved_of result
-        (answer_map (proved_with (function_of function)) (proof_answer bytes.now from)) }
+        (answer_map (proved_with (function_of function)) (lines_answer bytes.now (S.left source.old))) }
     ensures function { IfOk result (λ p. p.function ≡ function) }
     ensures end { IfOk result (λ p. p.end ≡ end_of bytes.now) }
 {
-    match read_proof(alloc, bytes, lines, from) {
+    match read_lines(alloc, bytes, source) {
         Ok(proof) => Ok(Proved {
             function,
             proof,
-            end: lines.count + 1,
+            end: source.end(),
         }),
         Err(ProofTextError::Malformed { line }) => Err(TextError::Malformed { line }),
         Err(ProofTextError::Memory) => Err(TextError::Memory),

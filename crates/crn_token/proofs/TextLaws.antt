@@ -3,13 +3,14 @@ use Rattle.std.proofs.Common.{◌≡◌, ℕ, ◌+◌, ◌<◌, ◌≤◌, List,
 use Rattle.std.proofs.lemmas.List.{map-append, take-append-drop}
 use Rattle.std.proofs.lemmas.List.Elements.{All-append, All-cons, All-nil}
 use Rattle.std.proofs.lemmas.Grind.{flat_map-append}
-use Rattle.std.specs.Prelude.{◌==◌, All, flat_map}
+use Rattle.std.specs.Prelude.{◌==◌, All, flat_map, Bool, true, false}
 use Rattle.std.specs.List.{before_first, position_or_len}
 use Rattle.crn_token.specs.declared.Token.{Token}
 use Rattle.crn_token.specs.declared.Line.{Line}
 use Rattle.crn_token.specs.declared.Lines.{Lines}
 use Rattle.crn_token.specs.Lines.{Text, AreLinesOf, TokenLine, view, physical_lines, token_line, token_lines_from, tokens_from, without_comment}
 use Rattle.crn_token.specs.Plain.{PlainLine, plain_token, plain_line, kept_line, plain_lines, plain_lines_from, plain_from}
+use Rattle.crn_token.specs.Source.{read_if}
 use Rattle.crn_token.specs.Spans.{AreInOrder, ArePlaced, IsPlaced, IsSpelled, line_tokens}
 use Rattle.crn_token.proofs.Cut.{physical_step}
 use Rattle.crn_token.proofs.PlainLaws.{plains, plains-tokens}
@@ -191,3 +192,16 @@ lines_of bytes lines are = ap (λ (t : Text). t.lines) are
 -- the same of the token lines of these bytes
 pub are_lines_say : (bytes : List ℕ) (lines : Lines) → AreLinesOf bytes lines → map (plain_line bytes) lines.lines.items ≡ plain_lines bytes
 are_lines_say bytes lines are = text_says bytes lines.lines.items (lines_of bytes lines are)
+
+-- what a walk has read says what stood there
+pub lines_are_said : (text rest after : List ℕ) (number at next to : ℕ) (kept : Bool) (line : Line) → drop at text ≡ rest → drop to text ≡ after
+    → read_if kept (view line) ++ token_lines_from next to (physical_lines after) ≡ token_lines_from number at (physical_lines rest)
+    → read_if kept (plain_line text line) ++ plain_lines_from next (physical_lines after) ≡ plain_lines_from number (physical_lines rest)
+lines_are_said text rest after number at next to kept line here there same =
+    ap₂ (λ (a b : List PlainLine). a ++ b) (shown kept) (sym (lines_say text (physical_lines after) after next to refl there))
+    ∙ sym (map-append (shown_line text) (read_if kept (view line)) (token_lines_from next to (physical_lines after)))
+    ∙ ap (map (shown_line text)) same ∙ lines_say text (physical_lines rest) rest number at refl here
+  where
+    shown : (b : Bool) → read_if b (plain_line text line) ≡ map (shown_line text) (read_if b (view line))
+    shown true = refl
+    shown false = refl

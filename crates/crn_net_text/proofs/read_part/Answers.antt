@@ -18,7 +18,7 @@ returns-then-is_whole-clause-answer c =
     let within : c.loop-index.index < length c.args.lines.now.lines.items = omega (arith, c.args.lines.now.lines.ok.0) in
     let here = line_at bytes c.args.lines.now c.loop-index.index line c.requires.lines within c.index-line.ensures in
     subst (GivesPart (λ (n : Network). n) (plain_lines bytes) c.part_up_to.result)
-    (part_stops network_table goes_on bytes (network_part bytes) c.loop-index.index line (drop (c.loop-index.index + 1) (plain_lines bytes)) (place_of c.loop-index.place) here c.loop-index.invariant.told
+    (part_stops network_table goes_on bytes (network_part bytes) (drop c.loop-index.index (plain_lines bytes)) line (drop (c.loop-index.index + 1) (plain_lines bytes)) (place_of c.loop-index.place) here c.loop-index.invariant.told
     (not-true _ (sym c.is_whole.ensures ∙ c.if-is_whole.true)))
     (c.part_up_to.ensures.answer (plain_lines bytes))
 
@@ -32,7 +32,7 @@ returns-in_err-place-clause-answer c =
     let said = ap (map (plain_token bytes)) c.tokens_of.ensures ∙ said_is bytes line in
     let e = c.in_err-place.field-0.0 in
     part_passed_on (λ (n : Network). n) (plain_lines bytes) c.from_residual.result e (network_part bytes) c.from_residual.ensures.1
-    (part_refused network_table goes_on bytes (network_part bytes) c.loop-index.index line (drop (c.loop-index.index + 1) (plain_lines bytes)) s e
+    (part_refused network_table goes_on bytes (network_part bytes) (drop c.loop-index.index (plain_lines bytes)) line (drop (c.loop-index.index + 1) (plain_lines bytes)) s e
     (follow s (map (plain_token bytes) c.tokens_of.result.now)) here c.loop-index.invariant.told (not-false _ (sym c.is_whole.ensures ∙ c.if-is_whole.false)) (ap (follow s) said) c.in_err-place.ensures)
 
 pub loop-index-preserved : goal.loop-index-preserved
@@ -45,7 +45,7 @@ loop-index-preserved c =
     let here = line_at bytes c.args.lines.now c.loop-index.index line c.requires.lines within c.index-line.ensures in
     let said = ap (map (plain_token bytes)) c.tokens_of.ensures ∙ said_is bytes line in
     record {
-      told = part_read network_table goes_on bytes (network_part bytes) c.loop-index.index line (drop (c.loop-index.index + 1) (plain_lines bytes)) s (place_of c.in_ok-place.place)
+      told = part_read network_table goes_on bytes (network_part bytes) (drop c.loop-index.index (plain_lines bytes)) line (drop (c.loop-index.index + 1) (plain_lines bytes)) s (place_of c.in_ok-place.place)
           (follow s ts) here c.loop-index.invariant.told (not-false _ (sym c.is_whole.ensures ∙ c.if-is_whole.false)) (ap (follow s) said) c.in_ok-place.ensures;
       kept = kept_judged line.number s (place_of c.in_ok-place.place) ts c.loop-index.invariant.kept c.in_ok-place.ensures;
     }
