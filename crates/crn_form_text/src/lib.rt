@@ -6,7 +6,7 @@
 
 mod form;
 mod formula;
-mod laws;
+pub mod laws;
 mod mark;
 mod number;
 mod print;

@@ -46,7 +46,7 @@ module _ (net : Network) (ok : IsNetwork net) where
         state = stops.state;
         split = stops.split;
         place = stops.place;
-        leads = run_steps net ok a stops.before stops.state earlier stops.leads stops.fit;
+        leads = run_steps net ok a stops.before stops.state earlier (stops.leads, stops.fit);
         refused = step_refused net ok stops.state stops.segment here e stops.cause;
       }
 
