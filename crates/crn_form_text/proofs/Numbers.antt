@@ -14,7 +14,7 @@ number_long : (ts : List Plain) (m : ℕ) (r : ℚ) → m ≤ length ts → Spel
 number_long ts m r within (Whole n, is, value) = inl (sym (length-take-le m ts within) ∙ ap length is)
 number_long ts m r within (Over n e, is, value) = inr (sym (length-take-le m ts within) ∙ ap length is)
 
-denominator_is : (us : List Plain) (e : ℕ) → denominator_at us ≡ Some e → (vs : List Plain) × (us ≡ PlainSign Slash ∷ PlainNumber (pos (suc e)) ∷ vs)
+pub denominator_is : (us : List Plain) (e : ℕ) → denominator_at us ≡ Some e → (vs : List Plain) × (us ≡ PlainSign Slash ∷ PlainNumber (pos (suc e)) ∷ vs)
 denominator_is (PlainSign Slash ∷ PlainNumber (pos (suc x)) ∷ vs) e h = (vs, ap (λ d. PlainSign Slash ∷ PlainNumber (pos (suc d)) ∷ vs) (same_Some x e h))
 denominator_is us e h = absurd (none-some e h)
 

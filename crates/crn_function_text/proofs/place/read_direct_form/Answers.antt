@@ -2,7 +2,7 @@ use Rattle.std.proofs.Common.{◌≡◌, ℕ, List, [], ◌∷◌, length, map, 
 use Rattle.crn_token.specs.declared.Token.{Token}
 use Rattle.crn_token.specs.Plain.{Plain, plain_token}
 use Rattle.crn_token.specs.Words.{rest_of}
-use Rattle.crn_function_text.specs.Grammar.{plain_form_of}
+use Rattle.crn_function_text.specs.Spelled.{plain_form_of}
 use Rattle.crn_function_text.proofs.place.read_direct_form.Goals as goal
 
 -- no tokens are no form
