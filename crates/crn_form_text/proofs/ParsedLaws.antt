@@ -59,15 +59,15 @@ term_is ts t r is = go (column_at ts) refl is
         numeral_is ts p.0 p.1 found ∙ after p.0 p.1 (column_at p.1) refl is
 
 -- a term, and more after it
-record Taken (negative : Bool) (ts : List Plain) (terms : List Signed) (r : List Plain) : Type 0 where
+record TermTaken (negative : Bool) (ts : List Plain) (terms : List Signed) (r : List Plain) : Type 0 where
   term : Term
   others : List Signed
   terms_are : terms ≡ with_sign negative term ∷ others
   tokens_are : ts ≡ (term_tokens term ++ more_tokens others) ++ r
 
-taken : (more : List Plain → Option (List Signed × List Plain)) (negative : Bool) (ts : List Plain) (terms : List Signed) (r : List Plain)
-    → ((us : List Plain) (m : List Signed) (q : List Plain) → more us ≡ Some (m, q) → us ≡ more_tokens m ++ q) → and_more more negative (term_at ts) ≡ Some (terms, r) → Taken negative ts terms r
-taken more negative ts terms r each is =
+term_taken : (more : List Plain → Option (List Signed × List Plain)) (negative : Bool) (ts : List Plain) (terms : List Signed) (r : List Plain)
+    → ((us : List Plain) (m : List Signed) (q : List Plain) → more us ≡ Some (m, q) → us ≡ more_tokens m ++ q) → and_more more negative (term_at ts) ≡ Some (terms, r) → TermTaken negative ts terms r
+term_taken more negative ts terms r each is =
     let (t, first, rest) = then_found {A = Term × List Plain} {B = List Signed × List Plain} (λ t. option_map (λ m. (with_sign negative t.0 ∷ m.0, m.1)) (more t.1)) (term_at ts) (terms, r) is in
     let (m, others, same) = map_found {A = List Signed × List Plain} {B = List Signed × List Plain} (λ m. (with_sign negative t.0 ∷ m.0, m.1)) (more t.1) (terms, r) rest in
     record {
@@ -81,10 +81,10 @@ taken more negative ts terms r each is =
 
 more_is : (n : ℕ) (ts : List Plain) (terms : List Signed) (r : List Plain) → more_at n ts ≡ Some (terms, r) → ts ≡ more_tokens terms ++ r
 more_is (suc n) (PlainSign Plus ∷ ts) terms r is =
-    let t = taken (more_at n) false ts terms r (more_is n) is in
+    let t = term_taken (more_at n) false ts terms r (more_is n) is in
     ap (λ l. PlainSign Plus ∷ l) t.tokens_are ∙ ap (λ l. more_tokens l ++ r) (sym t.terms_are)
 more_is (suc n) (PlainSign Minus ∷ ts) terms r is =
-    let t = taken (more_at n) true ts terms r (more_is n) is in
+    let t = term_taken (more_at n) true ts terms r (more_is n) is in
     ap (λ l. PlainSign Minus ∷ l) t.tokens_are ∙ ap (λ l. more_tokens l ++ r) (sym t.terms_are)
 more_is n ts terms r is = ap (λ (p : List Signed × List Plain). more_tokens p.0 ++ p.1) (same_Some ([], ts) (terms, r) is)
 
@@ -93,10 +93,10 @@ all_more us m q is = more_is (length us) us m q is
 
 terms_are : (ts : List Plain) (terms : List Signed) (r : List Plain) → terms_at ts ≡ Some (terms, r) → (0 < length terms) × (ts ≡ form_tokens terms ++ r)
 terms_are (PlainSign Minus ∷ ts) terms r is =
-    let t = taken (λ left. more_at (length left) left) true ts terms r all_more is in
+    let t = term_taken (λ left. more_at (length left) left) true ts terms r all_more is in
     (omega (arith, ap length t.terms_are), ap (λ l. PlainSign Minus ∷ l) t.tokens_are ∙ ap (λ l. form_tokens l ++ r) (sym t.terms_are))
 terms_are ts terms r is =
-    let t = taken (λ left. more_at (length left) left) false ts terms r all_more is in
+    let t = term_taken (λ left. more_at (length left) left) false ts terms r all_more is in
     (omega (arith, ap length t.terms_are), t.tokens_are ∙ ap (λ l. form_tokens l ++ r) (sym t.terms_are))
 
 -- ---- forms
@@ -179,12 +179,12 @@ form_is k ts f r is =
 -- ---- formulas
 
 comma_is : {T : Type 0} (p : T × List Plain) (q : T × List Plain) → after_comma p ≡ Some q → (p.0 ≡ q.0) × (p.1 ≡ PlainSign Comma ∷ q.1)
-comma_is (a, PlainSign Comma ∷ ts) q is = let same = same_Some (a, ts) q is in (ap (λ r. r.0) same, ap (λ r. PlainSign Comma ∷ r.1) same)
-comma_is p q is = absurd (none-some q is)
+comma_is {T} (a, PlainSign Comma ∷ ts) q is = let same = same_Some (a, ts) q is in (ap (λ (r : T × List Plain). r.0) same, ap (λ (r : T × List Plain). PlainSign Comma ∷ r.1) same)
+comma_is {T} p q is = absurd (none-some q is)
 
 right_is : {T : Type 0} (p : T × List Plain) (q : T × List Plain) → after_right p ≡ Some q → (p.0 ≡ q.0) × (p.1 ≡ PlainSign RightParen ∷ q.1)
-right_is (a, PlainSign RightParen ∷ ts) q is = let same = same_Some (a, ts) q is in (ap (λ r. r.0) same, ap (λ r. PlainSign RightParen ∷ r.1) same)
-right_is p q is = absurd (none-some q is)
+right_is {T} (a, PlainSign RightParen ∷ ts) q is = let same = same_Some (a, ts) q is in (ap (λ (r : T × List Plain). r.0) same, ap (λ (r : T × List Plain). PlainSign RightParen ∷ r.1) same)
+right_is {T} p q is = absurd (none-some q is)
 
 factor_is : (ts : List Plain) (q : ℚ) (r : List Plain) → factor_at ts ≡ Some (q, r) → (x : List Plain) × SpellsSigned q x × (ts ≡ x ++ r)
 factor_is (PlainSign Minus ∷ ts) q r is =

@@ -1,7 +1,6 @@
 -- A step of `bulk` is refused where a number of it does not fit, and nowhere else.
 use Rattle.std.proofs.Common.{◌≡◌, ℕ, zero, suc, ◌+◌, ◌-◌, ◌<◌, ◌≤◌, ◌%◌, ◌==◌, Bool, true, false, not, ◌&&◌, ◌||◌, cond, List, length, Option, Some, None, is_some, refl, sym, ap, ap₂, ◌∙◌, subst, ⊎_elim, arith, eqb-true}
 use Rattle.std.specs.Option.{option_or}
-use Rattle.std.specs.Prelude.{◌⊎◌, inl, inr, if◌then◌else◌}
 use Rattle.std.proofs.lemmas.Bool.{and_parts, cases_Bool, cases_eq}
 use Rattle.std.proofs.lemmas.Option.{same_Some}
 use Rattle.crn_fraction.specs.Rational.{ℚ}
@@ -21,10 +20,10 @@ use Rattle.crn_program.proofs.Halving.{half_legal, turns, happens_present, refus
 -- ---- one step
 
 module _ (net : Network) (ok : IsNetwork net) (r : ℕ) (low : 1 ≤ r) (high : r ≤ length net.reactions) (c : List ℚ) where
-  quotient : Option ℕ
+  abbrev quotient : Option ℕ
   quotient = unfit_quotient (amount c) (numbered net.reactions r).takes
 
-  sums : Option ℕ
+  abbrev sums : Option ℕ
   sums = unfit_sum (sum_of net c (alone r (half_flux net r c))) 1 net.species
 
   -- what there is where there is none
@@ -41,7 +40,7 @@ module _ (net : Network) (ok : IsNetwork net) (r : ℕ) (low : 1 ≤ r) (high : 
   is_there false is = let wrong : true ≡ false = is in cc
 
   half_fits : is_half_unfit net r c ≡ false → HalfFits net r c
-  unfolding taken quotient sums
+  unfolding taken
   half_fits fits =
       let (first, rest) = or_false (is_some quotient) (not (is_frac (half_flux net r c)) || is_some sums) fits in
       let (half, last) = or_false (not (is_frac (half_flux net r c))) (is_some sums) rest in
@@ -52,12 +51,12 @@ module _ (net : Network) (ok : IsNetwork net) (r : ℕ) (low : 1 ≤ r) (high : 
       }
 
   fits_half : HalfFits net r c → is_half_unfit net r c ≡ false
-  unfolding taken quotient sums
+  unfolding taken
   fits_half fits =
       let first : unfit_quotient (amount c) (numbered net.reactions r).takes ≡ None = fitting_quotients 0 net.species (amount c) (numbered net.reactions r).takes (ok.reactions r low high).takes fits.quotients in
       let half : is_frac (half_flux net r c) ≡ true = frac_is (half_flux net r c) fits.half in
       let last : unfit_sum (sum_of net c (alone r (half_flux net r c))) 1 net.species ≡ None = fitting_step net c (alone r (half_flux net r c)) fits.step in
-      ap₂ (λ x y. is_some x || y) first (ap₂ (λ x y. not x || is_some y) half last)
+      ap₂ (λ (x : Option ℕ) y. is_some x || y) first (ap₂ (λ x (y : Option ℕ). not x || is_some y) half last)
 
   not_lacking : (LacksReactant net r c → ⊥) → lacks (amount c) (numbered net.reactions r).takes ≡ false
   not_lacking here =
@@ -91,22 +90,20 @@ module _ (net : Network) (ok : IsNetwork net) (r : ℕ) (low : 1 ≤ r) (high : 
 
 module _ (net : Network) (ok : IsNetwork net) (z : ℕ) (a : List ℚ) where
   -- whether the step of reaction n + 1 is refused
-  unfit_at : ℕ → Bool
+  abbrev unfit_at : ℕ → Bool
   unfit_at n = is_turn_unfit net (drawn z (suc n)) (suc n) (after_all net a (halves_to net z n a))
 
   more : (n : ℕ) → halves_refusal_to net z (suc n) a ≡ option_or (halves_refusal_to net z n a) (cond (unfit_at n) (Some (suc n)) None)
-  unfolding halves_refusal_to unfit_at
+  unfolding halves_refusal_to
   more n = refl
 
   goes_at : (n : ℕ) → n < length net.reactions → unfit_at n ≡ false → HalfTurnGoes net z a (suc n)
-  unfolding unfit_at
   goes_at n within fits =
       let same : n ≡ suc n - 1 = omega arith in
       subst (λ i. HalfGoes net (drawn z (suc n)) (suc n) (after_all net a (halves_to net z i a))) same
       (goes_where_fit net ok (suc n) (omega arith) (omega (arith, within)) (after_all net a (halves_to net z n a)) (drawn z (suc n)) fits)
 
   fits_at : (n : ℕ) → n < length net.reactions → HalfTurnGoes net z a (suc n) → unfit_at n ≡ false
-  unfolding unfit_at
   fits_at n within goes =
       let same : suc n - 1 ≡ n = omega arith in
       fit_where_goes net ok (suc n) (omega arith) (omega (arith, within)) (after_all net a (halves_to net z n a)) (drawn z (suc n))
