@@ -1,25 +1,15 @@
 -- Forms that are spelled without `-` and constants have no negative coefficient.
-use Rattle.std.proofs.Common.{◌≡◌, ◌⊎◌, inl, inr, ℕ, suc, ◌+◌, ◌<◌, ◌≤◌, eqb, Bool, false, pos, List, [], ◌∷◌, length, map, take, get_or, Some, refl, sym, ap, ◌∙◌, subst, ⊎_elim, arith}
-use Rattle.std.specs.Prelude.{All, replicate}
-use Rattle.std.specs.Option.{option_and_then}
+use Rattle.std.proofs.Common.{◌≡◌, ℕ, suc, ◌<◌, eqb, Bool, false, pos, List, [], ◌∷◌, length, get_or, refl, sym, ap, ◌∙◌, subst, ⊎_elim, arith}
+use Rattle.std.specs.Prelude.{All}
 use Rattle.std.proofs.lemmas.Int.{ints}
 use Rattle.std.proofs.lemmas.Bool.{cases_Bool}
 use Rattle.std.proofs.lemmas.List.{length-take-le, length-replicate, get_or-take, get_or_default, get_or-replicate}
-use Rattle.std.proofs.lemmas.Option.{none-some, same_Some}
-use Rattle.crn_token.specs.Plain.{Plain, PlainNumber}
+use Rattle.crn_token.specs.Plain.{Plain}
 use Rattle.crn_fraction.specs.Rational.{ℚ, 0ℚ, ◌≤ℚ◌}
 use Rattle.crn_fraction.proofs.Order.{≤ℚ_refl}
 use Rattle.crn_fraction.proofs.Products.{nonneg_ratio}
 use Rattle.crn_fraction.proofs.Values.{quotient_positive}
-use Rattle.crn_formula.specs.Formulas.{Formula, node_count}
-use Rattle.crn_form_text.specs.Grammar.{Numeral, Whole, Over, form_tokens, AreTermsOf, fraction, Term, Variable, Multiple, Constant, Signed, column_of, coefficient_of, IsPlainTerm, ArePlain, entry_in, SpellsForm, SpellsPlain, SpellsFormula}
-use Rattle.crn_form_text.specs.Reading.{form_with, plain_forms, whole_of, mark_of}
-use Rattle.crn_form_text.specs.Built.{postfix, builds}
-use Rattle.crn_form_text.proofs.FormSpells.{spelled_form, terms_put}
-use Rattle.crn_form_text.proofs.PlainLaws.{plain_run}
-use Rattle.crn_form_text.proofs.PlainSpells.{spelled_plain}
-use Rattle.crn_form_text.proofs.WalkRuns.{walk_spelled}
-use Rattle.crn_form_text.proofs.BuildLaws.{kept_all, length-postfix, built_whole, narrow_all}
+use Rattle.crn_form_text.specs.Grammar.{Numeral, Whole, Over, fraction, Term, Variable, Multiple, Constant, Signed, column_of, coefficient_of, IsPlainTerm, ArePlain, entry_in, SpellsPlain}
 
 -- ---- forms without negative coefficients
 pub plain_long : (k : ℕ) (form : List ℚ) (ts : List Plain) → SpellsPlain k form ts → length form ≡ k

@@ -1,7 +1,6 @@
 -- What is taken from tokens by cases is what they spell, over any number of variables.
-use Rattle.std.proofs.Common.{◌≡◌, ◌≢◌, inl, inr, ℕ, zero, suc, ◌+◌, ◌<◌, ◌≤◌, ◌==◌, ◌&&◌, not, Bool, true, false, cond, pos, negsuc, List, [], ◌∷◌, ◌++◌, length, map, take, drop, replicate, Option, Some, None, refl, sym, ap, ap₂, ◌∙◌, subst, ⊎_elim, arith, append_assoc, append-nil, length-append, lt-ltb, eqb-true, ne_eqb, get_or}
-use Rattle.std.specs.Prelude.{codes, nat_lt}
-use Rattle.std.specs.List.{range_with_len}
+use Rattle.std.proofs.Common.{◌≡◌, inl, inr, ℕ, zero, suc, ◌+◌, ◌<◌, ◌≤◌, ◌==◌, ◌&&◌, not, Bool, true, false, cond, pos, List, [], ◌∷◌, ◌++◌, length, take, drop, replicate, Option, Some, None, refl, sym, ap, ap₂, ◌∙◌, subst, arith, append_assoc, append-nil, length-append, lt-ltb, ne_eqb, get_or}
+use Rattle.std.specs.Prelude.{codes}
 use Rattle.std.specs.Option.{option_map, option_and_then, option_map_or}
 use Rattle.std.specs.Str.{bytes_eq}
 use Rattle.std.proofs.lemmas.Bool.{and_parts, ltb-true, eqb-false}
@@ -316,37 +315,34 @@ more_denominator (t ∷ terms) y stops = go t.negative
 -- ---- terms and forms
 
 term_here : (t : Term) (y : List Plain) → column_at y ≡ None → denominator_at y ≡ None → term_at (term_tokens t ++ y) ≡ Some (t, y)
-term_here (Variable c) y none no = refl
-term_here (Multiple (Whole n) c) y none no = refl
-term_here (Multiple (Over n e) c) y none no = refl
-term_here (Constant (Whole n)) y none no = rw (no, none) refl
-term_here (Constant (Over n e)) y none no = rw none refl
+term_here (Variable c) y none quiet = refl
+term_here (Multiple (Whole n) c) y none quiet = refl
+term_here (Multiple (Over n e) c) y none quiet = refl
+term_here (Constant (Whole n)) y none quiet = rw (quiet, none) refl
+term_here (Constant (Over n e)) y none quiet = rw none refl
 
 more_here : (terms : List Signed) (y : List Plain) (n : ℕ) → length terms ≤ n → Stops y → more_at n (more_tokens terms ++ y) ≡ Some (terms, y)
 more_here [] y n few stops = stops_more n y stops
 more_here (t ∷ terms) y zero few stops = absurd (omega (arith, few))
-more_here (t ∷ terms) y (suc n) few stops = go t.negative t.term
+more_here (t ∷ terms) y (suc n) few stops = go (more_here terms y n (omega (arith, few)) stops) t.negative t.term
   where
-    again : more_at n (more_tokens terms ++ y) ≡ Some (terms, y)
-    again = more_here terms y n (omega (arith, few)) stops
-
-    next : (b : Bool) (u : Term) → and_more (more_at n) b (term_at ((term_tokens u ++ more_tokens terms) ++ y)) ≡ Some (with_sign b u ∷ terms, y)
-    next b u =
+    next : more_at n (more_tokens terms ++ y) ≡ Some (terms, y) → (b : Bool) (u : Term) → and_more (more_at n) b (term_at ((term_tokens u ++ more_tokens terms) ++ y)) ≡ Some (with_sign b u ∷ terms, y)
+    next again b u =
         ap (λ l. and_more (more_at n) b (term_at l)) (append_assoc (term_tokens u) (more_tokens terms) y)
         ∙ ap (and_more (more_at n) b) (term_here u (more_tokens terms ++ y) (more_column terms y stops) (more_denominator terms y stops))
         ∙ ap (option_map {T = List Signed × List Plain} {U = List Signed × List Plain} (λ m. (with_sign b u ∷ m.0, m.1))) again
 
-    go : (b : Bool) (u : Term) → more_at (suc n) (((sign_before b ++ term_tokens u) ++ more_tokens terms) ++ y) ≡ Some (with_sign b u ∷ terms, y)
-    go true u = next true u
-    go false u = next false u
+    go : more_at n (more_tokens terms ++ y) ≡ Some (terms, y) → (b : Bool) (u : Term) → more_at (suc n) (((sign_before b ++ term_tokens u) ++ more_tokens terms) ++ y) ≡ Some (with_sign b u ∷ terms, y)
+    go again true u = next again true u
+    go again false u = next again false u
 
 more_long : (terms : List Signed) → length terms ≤ length (more_tokens terms)
 more_long [] = omega arith
-more_long (t ∷ terms) = go t.negative
+more_long (t ∷ terms) = go (more_long terms) t.negative
   where
-    go : (b : Bool) → suc (length terms) ≤ length ((sign_before b ++ term_tokens t.term) ++ more_tokens terms)
-    go true = omega (arith, more_long terms, length-append (term_tokens t.term) (more_tokens terms))
-    go false = omega (arith, more_long terms, length-append (term_tokens t.term) (more_tokens terms))
+    go : length terms ≤ length (more_tokens terms) → (b : Bool) → suc (length terms) ≤ length ((sign_before b ++ term_tokens t.term) ++ more_tokens terms)
+    go rest true = omega (arith, rest, length-append (term_tokens t.term) (more_tokens terms))
+    go rest false = omega (arith, rest, length-append (term_tokens t.term) (more_tokens terms))
 
 -- a term begins with no `-`
 no_minus : (t : Term) (ys : List Plain) → terms_at (term_tokens t ++ ys) ≡ and_more (λ left. more_at (length left) left) false (term_at (term_tokens t ++ ys))
@@ -548,7 +544,7 @@ unfolding plain_form_from
 plain_form_from_is k f ts is = go (is_zero ts) refl is
   where
     go : (b : Bool) → is_zero ts ≡ b → cond b (Some (replicate k 0ℚ)) (option_and_then (plain_with_terms k) (option_and_then nothing_left (terms_at ts))) ≡ Some f → SpellsPlain k f ts
-    go true zero found = inl (zero_is ts zero, sym (same_Some (replicate k 0ℚ) f found))
+    go true alone found = inl (zero_is ts alone, sym (same_Some (replicate k 0ℚ) f found))
     go false other found =
         let (terms, all, rest) = then_found (plain_with_terms k) (option_and_then nothing_left (terms_at ts)) f found in
         let (p, taken_p, left) = then_found {A = List Signed × List Plain} nothing_left (terms_at ts) terms all in
@@ -568,7 +564,7 @@ plain_form_from_is k f ts is = go (is_zero ts) refl is
 
 pub is_plain_form_from : (k : ℕ) (f : List ℚ) (ts : List Plain) → SpellsPlain k f ts → plain_form_from k ts ≡ Some f
 unfolding plain_form_from
-is_plain_form_from k f ts (inl (zero, form)) = ap (λ l. cond (is_zero l) (Some (replicate k 0ℚ)) (option_and_then (plain_with_terms k) (option_and_then nothing_left (terms_at l)))) zero ∙ ap Some (sym form)
+is_plain_form_from k f ts (inl (alone, form)) = ap (λ l. cond (is_zero l) (Some (replicate k 0ℚ)) (option_and_then (plain_with_terms k) (option_and_then nothing_left (terms_at l)))) alone ∙ ap Some (sym form)
 is_plain_form_from k f ts (inr (affine, terms, are, plain, is, form)) =
     let all : option_and_then nothing_left (terms_at (form_tokens terms)) ≡ Some terms =
     ap (λ l. option_and_then nothing_left (terms_at l)) (sym (append-nil (form_tokens terms))) ∙ ap (option_and_then {T = List Signed × List Plain} nothing_left) (terms_here terms [] are.some tt) in

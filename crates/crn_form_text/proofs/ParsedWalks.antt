@@ -22,12 +22,17 @@ walked_form k ts few = go (form_of k ts) refl (form_from k ts) refl
     go None walked (Some f) cases = sym walked ∙ spelled_form k f ts few (form_from_is k f ts cases)
 
 -- a formula that is spelled is walked over, to its counts and its nodes
-pub walked_formula : (k : ℕ) (e : Formula) (ts : List Plain) → k ≤ 8 → formula_from k ts ≡ Some e → (w : Walk) × (whole_of (walks k) (map mark_of ts) ≡ Some w) × IsWalkOf k e w
+abbrev IsWalked : ℕ → Formula → List Plain → Type 0
+IsWalked k e ts = (w : Walk) × (whole_of (walks k) (map mark_of ts) ≡ Some w) × IsWalkOf k e w
+
+walk_named : (k : ℕ) (e : Formula) (ts : List Plain) → k ≤ 8 → SpellsFormula k e ts → (w : Walk) → whole_of (walks k) (map mark_of ts) ≡ Some w → IsWalked k e ts
+walk_named k e ts few spelled w ends =
+    let (f, other, walked) = walk_is k ts w few ends in (w, ends, subst (λ g. IsWalkOf k g w) (one_formula_from k f e ts other spelled) walked)
+
+pub walked_formula : (k : ℕ) (e : Formula) (ts : List Plain) → k ≤ 8 → formula_from k ts ≡ Some e → IsWalked k e ts
 walked_formula k e ts few is =
     let spelled = formula_from_is k e ts is in
-    let ends = walk_spelled k e ts few spelled in
-    let (f, other, walked) = walk_is k ts _ few ends in
-    (_, ends, subst (λ g. IsWalkOf k g _) (one_formula_from k f e ts other spelled) walked)
+    walk_named k e ts few spelled _ (walk_spelled k e ts few spelled)
 
 -- and where none is spelled the walk comes to no end
 pub no_walk : (k : ℕ) (ts : List Plain) → k ≤ 8 → formula_from k ts ≡ None → whole_of (walks k) (map mark_of ts) ≡ None
