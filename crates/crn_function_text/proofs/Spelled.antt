@@ -1,17 +1,14 @@
 -- The forms and the formula that the tokens of a line spell.
-use Rattle.std.proofs.Common.{◌≡◌, ◌≢◌, ℕ, ◌+◌, ◌≤◌, Bool, true, false, cond, List, [], ◌∷◌, length, take, Option, Some, None, refl, sym, ◌∙◌, ap, subst, arith, lt-ltb, ⊎_elim, take_all, eqb-true}
-use Rattle.std.proofs.lemmas.Bool.{eqb-false}
-use Rattle.std.proofs.lemmas.Option.{none-some, same_Some}
-use Rattle.std.specs.Prelude.{All, ◌==◌, pos, codes}
+use Rattle.std.proofs.Common.{◌≡◌, ◌≢◌, ℕ, suc, ◌+◌, ◌-◌, ◌<◌, ◌≤◌, false, List, [], ◌∷◌, length, take, Option, Some, None, refl, sym, ◌∙◌, ap, subst, arith, lt-ltb, take_all}
+use Rattle.std.specs.Prelude.{All, pos, codes, slice_range}
 use Rattle.crn_fraction.specs.Rational.{ℚ, 0ℚ, ◌≤ℚ◌}
 use Rattle.crn_formula.specs.Formulas.{Formula, Lin, Add, Sub, Scale, Min, Max, IsOver}
 use Rattle.crn_token.specs.Plain.{Plain, PlainWord, PlainNumber}
-use Rattle.crn_form_text.specs.Grammar.{SpellsPlain, SpellsFormula}
-use Rattle.crn_form_text.specs.Parsed.{form_from, plain_form_from, formula_from}
-use Rattle.crn_form_text.specs.Reading.{plain_form_at}
+use Rattle.crn_token.specs.Words.{rest_of}
+use Rattle.crn_form_text.specs.Grammar.{Signed, Variable, SpellsPlain, IsLongestPlain, BeginsNoPlain, SpellsFormula}
+use Rattle.crn_form_text.specs.Parsed.{with_sign, form_of_terms, form_from, plain_form_from, formula_from}
 use Rattle.crn_form_text.proofs.Meanings.{plain_long, plain_nonnegative}
 use Rattle.crn_form_text.proofs.ParsedLaws.{form_from_is, plain_form_from_is, is_plain_form_from}
-use Rattle.crn_form_text.proofs.PlainSpells.{IsFound, plain_found}
 use Rattle.crn_function_text.specs.Spelled.{form_of, plain_form_of, formula_of}
 
 pub spelled_over : (k : ℕ) (e : Formula) (ts : List Plain) → SpellsFormula k e ts → IsOver (k + 1) e
@@ -31,52 +28,48 @@ plain_form_long k f ts is = plain_long k f ts (plain_form_from_is k f ts is)
 pub plain_form_nonnegative : (k : ℕ) (f : List ℚ) (ts : List Plain) → plain_form_of k ts ≡ Some f → All (λ c. 0ℚ ≤ℚ c) f
 plain_form_nonnegative k f ts is = plain_nonnegative k f ts (plain_form_from_is k f ts is)
 
--- ---- the longest form without negative coefficients, where it is all of the tokens
+-- ---- the longest form without negative coefficients, from the second token of a line on
 
-abbrev if_all : ℕ → Option (List ℚ × ℕ) → Option (List ℚ)
-if_all count None = None
-if_all count (Some (form, taken)) = cond (taken == count) (Some form) None
+to_the_end : (ts : List Plain) → 0 < length ts → slice_range ts 1 (length ts) ≡ rest_of ts
+to_the_end [] some = absurd (omega (arith, some))
+to_the_end (t ∷ ts) some = let long : suc (length ts) - 1 ≡ length ts = omega arith in ap (λ n. take n ts) long ∙ take_all (length ts) ts (omega arith)
 
--- of at most 8 variables it is the one that they spell
-pub longest_is : (k : ℕ) (ts : List Plain) (o : Option (List ℚ × ℕ)) → k ≤ 8 → plain_form_at k ts ≡ o → if_all (length ts) o ≡ plain_form_of k ts
-longest_is k ts o few is = go o (subst (IsFound k ts) is (plain_found k ts few))
+-- it is what the tokens after the first spell where it ends with them
+pub longest_all : (k : ℕ) (ts us : List Plain) (form : List ℚ) (next : ℕ) → 0 < length ts → us ≡ rest_of ts → IsLongestPlain k ts 1 form next → next ≡ length ts → Some form ≡ plain_form_of k us
+longest_all k ts us form next some us_is longest all =
+    sym (is_plain_form_from k form us (subst (SpellsPlain k form) (ap (slice_range ts 1) all ∙ to_the_end ts some ∙ sym us_is) longest.spells))
+
+no_form : (k : ℕ) (us : List Plain) → ((f : List ℚ) → SpellsPlain k f us → ⊥) → None ≡ plain_form_of k us
+no_form k us never = go (plain_form_from k us) refl
   where
-    none : ((f : List ℚ) → SpellsPlain k f ts → ⊥) → None ≡ plain_form_from k ts
-    none never = each (plain_form_from k ts) refl
-      where
-        each : (p : Option (List ℚ)) → plain_form_from k ts ≡ p → None ≡ plain_form_from k ts
-        each None found = sym found
-        each (Some f) found = absurd (never f (plain_form_from_is k f ts found))
+    go : (o : Option (List ℚ)) → plain_form_from k us ≡ o → None ≡ plain_form_from k us
+    go None found = sym found
+    go (Some f) found = absurd (never f (plain_form_from_is k f us found))
 
-    all : (f : List ℚ) → SpellsPlain k f ts → SpellsPlain k f (take (length ts) ts)
-    all f spells = subst (SpellsPlain k f) (sym (take_all (length ts) ts (omega arith))) spells
+-- they spell none where it ends before, or where there is none
+pub longest_less : (k : ℕ) (ts us : List Plain) (form : List ℚ) (next : ℕ) → 0 < length ts → us ≡ rest_of ts → IsLongestPlain k ts 1 form next → next ≢ length ts → None ≡ plain_form_of k us
+longest_less k ts us form next some us_is longest less =
+    no_form k us (λ f spells. longest.longest (length ts) f (omega (arith, longest.within, less)) (omega arith) (subst (SpellsPlain k f) (us_is ∙ sym (to_the_end ts some)) spells))
 
-    go : (p : Option (List ℚ × ℕ)) → IsFound k ts p → if_all (length ts) p ≡ plain_form_from k ts
-    go None found = none (λ f spells. found (length ts) f (omega arith) (all f spells))
-    go (Some (g, n)) found = whole (n == length ts) refl
-      where
-        whole : (b : Bool) → (n == length ts) ≡ b → cond (n == length ts) (Some g) None ≡ plain_form_from k ts
-        whole true same =
-            let at_end : n ≡ length ts = eqb-true n (length ts) same in
-            let spells : SpellsPlain k g ts = subst (SpellsPlain k g) (ap (λ m. take m ts) at_end ∙ take_all (length ts) ts (omega arith)) found.1 in
-            ap (λ b. cond b (Some g) None) same ∙ sym (is_plain_form_from k g ts spells)
-        whole false other =
-            let apart : n ≢ length ts = eqb-false n (length ts) other in
-            ap (λ b. cond b (Some g) None) other ∙ none (λ f spells. found.2 (length ts) f (omega (arith, found.0, apart)) (omega arith) (all f spells))
+pub longest_none : (k : ℕ) (ts us : List Plain) → 0 < length ts → us ≡ rest_of ts → BeginsNoPlain k ts 1 → None ≡ plain_form_of k us
+longest_none k ts us some us_is none = no_form k us (λ f spells. none (length ts) f (omega arith) (subst (SpellsPlain k f) (us_is ∙ sym (to_the_end ts some)) spells))
 
 -- ---- some tokens spell a form
 -- the first variable
 abbrev x1 : List Plain
 x1 = PlainWord (codes "x") ∷ PlainNumber (pos 1) ∷ []
 
+abbrev x1_terms : List Signed
+x1_terms = with_sign false (Variable 0) ∷ []
+
 pub some_form : (k : ℕ) → 1 ≤ k → (ts : List Plain) × (f : List ℚ) × (form_of k ts ≡ Some f)
 unfolding form_from
-some_form k some = (x1, _, rw (lt-ltb 0 k some) refl)
+some_form k some = (x1, form_of_terms k x1_terms, rw (lt-ltb 0 k some) refl)
 
 pub some_plain_form : (k : ℕ) → 1 ≤ k → (ts : List Plain) × (f : List ℚ) × (plain_form_of k ts ≡ Some f)
 unfolding plain_form_from
-some_plain_form k some = (x1, _, rw (lt-ltb 0 k some) refl)
+some_plain_form k some = (x1, take k (form_of_terms k x1_terms), rw (lt-ltb 0 k some) refl)
 
 pub some_formula : (k : ℕ) → 1 ≤ k → (ts : List Plain) × (e : Formula) × (formula_of k ts ≡ Some e)
 unfolding formula_from
-some_formula k some = (x1, _, rw (lt-ltb 0 k some) refl)
+some_formula k some = (x1, Lin (form_of_terms k x1_terms), rw (lt-ltb 0 k some) refl)
