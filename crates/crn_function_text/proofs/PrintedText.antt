@@ -1,9 +1,8 @@
 -- The lines of a printed function are answered with that function.
-use Rattle.std.proofs.Common.{◌≡◌, ℕ, zero, suc, ◌+◌, ◌-◌, ◌≤◌, false, cond, pos, List, [], ◌∷◌, ◌++◌, length, take, map, ⊎_elim, take_all, Option, Some, None, refl, sym, ap, ◌∙◌, subst, arith, append_assoc, append-nil, take_at, drop_at, length-append, eq-eqb}
+use Rattle.std.proofs.Common.{◌≡◌, ℕ, zero, suc, ◌+◌, ◌-◌, ◌≤◌, false, cond, pos, List, [], ◌∷◌, ◌++◌, length, map, Some, None, refl, sym, ap, ◌∙◌, subst, arith, append_assoc, append-nil, take_at, drop_at, length-append}
 use Rattle.std.specs.Prelude.{codes, All}
 use Rattle.std.specs.List.{flat_map, sum_by, list_any}
 use Rattle.std.specs.Option.{option_map, option_map_or}
-use Rattle.std.proofs.lemmas.Bool.{cases_lt}
 use Rattle.std.proofs.lemmas.List.{length-map}
 use Rattle.std.proofs.lemmas.List.Sums.{sum_by-cons, sum_by-append}
 use Rattle.crn_token.specs.declared.Sign.TheVariants.{AtLeast}
@@ -32,7 +31,7 @@ use Rattle.crn_function_text.specs.Printing.{function_lines, word_line, kind_wor
 use Rattle.crn_function_text.specs.Spelled.{form_of, plain_form_of}
 use Rattle.crn_grammar.proofs.LimitLaws.{not_above}
 use Rattle.crn_function_text.proofs.GrammarLaws.{function_can_end}
-use Rattle.crn_function_text.proofs.PrintedColumns.{with_piece, columns_for, columns_least, constants_nodes, formula_back, pieces_back}
+use Rattle.crn_function_text.proofs.PrintedColumns.{with_piece, columns_for, columns_least, formula_back, pieces_back}
 
 -- how a function is given
 abbrev given_by : Kind → Given

@@ -1,9 +1,8 @@
 -- The answer to a text of two functions by the answers to its parts, that each place of it can end, and that both functions are within their limits.
 use Rattle.std.proofs.Common.{◌≡◌, ℕ, true, false, List, [], ◌∷◌, drop, Option, Some, None, refl, sym, ◌∙◌, ap, subst, ⊎_elim}
 use Rattle.std.proofs.lemmas.Bool.{cases_Bool}
-use Rattle.std.specs.Prelude.{codes}
 use Rattle.std.specs.Option.{option_and_then}
-use Rattle.crn_token.specs.Plain.{PlainLine, PlainWord, plain_lines, line_number, end_of}
+use Rattle.crn_token.specs.Plain.{PlainLine, plain_lines, line_number, end_of}
 use Rattle.crn_token.specs.Words.{says, rest_of}
 use Rattle.crn_grammar.specs.declared.error.TextError.{TextError}
 use Rattle.crn_grammar.specs.Table.{IsText, PassesNone, after, CanEnd}

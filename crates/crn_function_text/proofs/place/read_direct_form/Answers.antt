@@ -34,6 +34,6 @@ returns-in_default c =
     let some : 0 < length (map pt c.args.line.now.tokens.items) = let some = eqb-false _ 0 (sym c.is_empty.ensures ∙ c.if-is_empty.false) in omega (arith, some, c.args.line.now.tokens.ok.0, length-map c.args.line.now.tokens.items pt) in
     let rest = sym (rest_map pt c.args.line.now.tokens.items) in
     elim c.in_default.branch [
-      in_default-via-in-Some+else-next-len w ↦ longest_less c.args.variables (map pt c.args.line.now.tokens.items) _ _ _ some rest w.in-Some.ensures.found (λ same. w.if-next-len.false (same ∙ sym (w.len.ensures ∙ (let long : vec_len c.args.line.now.tokens ≡ length (map pt c.args.line.now.tokens.items) = omega (arith, c.args.line.now.tokens.ok.0, length-map c.args.line.now.tokens.items pt) in long))))
-    | in_default-via-in_default w ↦ longest_none c.args.variables (map pt c.args.line.now.tokens.items) _ some rest w.in_default.ensures.none
+      | in_default-via-in-Some+else-next-len w ↦ longest_less c.args.variables (map pt c.args.line.now.tokens.items) _ _ _ some rest w.in-Some.ensures.found (λ same. w.if-next-len.false (same ∙ sym (w.len.ensures ∙ (let long : vec_len c.args.line.now.tokens ≡ length (map pt c.args.line.now.tokens.items) = omega (arith, c.args.line.now.tokens.ok.0, length-map c.args.line.now.tokens.items pt) in long))))
+      | in_default-via-in_default w ↦ longest_none c.args.variables (map pt c.args.line.now.tokens.items) _ some rest w.in_default.ensures.none
     ]
