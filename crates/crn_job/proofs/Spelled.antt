@@ -11,7 +11,7 @@ use Rattle.crn_fraction.specs.Rational.{ℚ}
 use Rattle.crn_token.specs.declared.Sign.TheVariants.{Colon}
 use Rattle.crn_token.specs.Plain.{Plain, PlainWord, PlainNumber, PlainSign}
 use Rattle.crn_token.specs.Words.{rest_of}
-use Rattle.crn_token.proofs.Options.{then_found, map_found}
+use Rattle.crn_token.proofs.Options.{then_found, map_found, if_found}
 use Rattle.crn_form_text.specs.Grammar.{SpellsNumber}
 use Rattle.crn_form_text.specs.Reading.{denominator_at, fraction_at}
 use Rattle.crn_form_text.proofs.Numbers.{number_here, number_starts, number_spelled}
@@ -82,13 +82,14 @@ flow_spelled ts f m is =
     let (r, here, rest) = then_found {A = ℕ} {B = Flow × ℕ} (λ n. flow_to n (drop 2 ts)) (reaction_at ts) (f, m) is in
     let (p, found, same) = map_found {A = ℚ × ℕ} {B = Flow × ℕ} (λ p. (flow r p.0, 2 + p.1)) (fraction_at (drop 2 ts)) (f, m) rest in
     let (within, one) = number_spelled (drop 2 ts) p.0 p.1 found in
-    subst (λ (g : Flow × ℕ). SpellsFlow g.0 (take g.1 ts)) same (take p.1 (drop 2 ts), one, ap (take (2 + p.1)) (reaction_is ts r here))
+    let two : 2 + p.1 ≡ suc (suc p.1) = omega arith in
+    subst (λ (g : Flow × ℕ). SpellsFlow g.0 (take g.1 ts)) same (take p.1 (drop 2 ts), one, ap (λ k. take k ts) two ∙ ap (take (suc (suc p.1))) (reaction_is ts r here))
 
 flow_here : (f : Flow) (x y : List Plain) → SpellsFlow f x → denominator_at y ≡ None → flow_at (x ++ y) ≡ Some (f, length x)
 flow_here f x y (n, one, is) none =
     ap (λ l. flow_at (l ++ y)) is
     ∙ ap (option_map {T = ℚ × ℕ} {U = Flow × ℕ} (λ p. (flow f.reaction p.0, 2 + p.1))) (number_here f.flux n y one none)
-    ∙ ap (λ k. Some (f, k)) (sym (ap length is))
+    ∙ ap (λ k. Some (f, k)) (let long : 2 + length n ≡ length x = omega (arith, ap length is) in long)
 
 flows_start : (fs : List Flow) (ts : List Plain) → SpellsFlows fs ts → denominator_at ts ≡ None
 flows_start [] ts is = ap denominator_at is
@@ -140,10 +141,10 @@ amount_spelled low n ts g is =
     let (q, there, same) = map_found (given a) (number_of (drop 2 ts)) g rest in
     let (above, below) = species_found low n a ts here in
     let (more, tokens) = species_spelled low n a ts here in
-    subst (λ h. SpellsAmount low n h ts) same (above, below, more, subst (SpellsNumber q) (ap (drop 2) tokens) (number_spelled_alone (drop 2 ts) q there), tokens)
+    subst (λ h. SpellsAmount low n h ts) same (above, below, (more, subst (SpellsNumber q) (ap (drop 2) tokens) (number_spelled_alone (drop 2 ts) q there), tokens))
 
 pub spelled_amount : (low n : ℕ) (ts : List Plain) (g : Given) → SpellsAmount low n g ts → given_of low n ts ≡ Some g
-spelled_amount low n ts g (above, below, x, one, is) =
+spelled_amount low n ts g (above, below, (x, one, is)) =
     ap (given_of low n) is
     ∙ ap (option_and_then (λ b. option_map (given b) (number_of x))) (species_here low n g.species x above below)
     ∙ ap (option_map (given g.species)) (spelled_number_alone x g.amount one)

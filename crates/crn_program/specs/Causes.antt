@@ -42,7 +42,7 @@ pub record HalfFits (net : Network) (r : ℕ) (c : List ℚ) : Type 0 where
 
 -- where the draw is even and no reactant of r is absent at c, its step fits
 abbrev pub HalfGoes : Network → (draw r : ℕ) → List ℚ → Type 0
-HalfGoes net draw r c = draw % 2 ≡ 0 → (LacksReactant net r c → ⊥) → HalfFits net r c
+HalfGoes net draw r c = (draw % 2 ≡ 0) → (LacksReactant net r c → ⊥) → HalfFits net r c
 
 -- the state at which reaction r has its turn, from a on and with the draws after z
 abbrev pub half_state : Network → (z : ℕ) → List ℚ → ℕ → List ℚ
