@@ -1,5 +1,5 @@
 -- What lines are texts of is what is read of them, and nothing else.
-use Rattle.std.proofs.Common.{◌≡◌, ◌⊎◌, inl, inr, ℕ, zero, suc, ◌+◌, ◌<◌, ◌≤◌, Bool, true, false, cond, pos, List, [], ◌∷◌, ◌++◌, length, take, drop, Option, Some, None, refl, sym, ◌∙◌, ap, ap₂, subst, ⊎_elim, arith, length-append, append-nil}
+use Rattle.std.proofs.Common.{◌≡◌, inl, inr, ℕ, zero, suc, ◌+◌, ◌<◌, ◌≤◌, Bool, true, false, cond, pos, List, [], ◌∷◌, ◌++◌, length, take, drop, Option, Some, None, refl, sym, ◌∙◌, ap, subst, arith, length-append, append-nil}
 use Rattle.std.specs.Prelude.{codes}
 use Rattle.std.specs.Str.{bytes_eq}
 use Rattle.std.specs.Option.{option_map, option_and_then}
@@ -19,7 +19,7 @@ use Rattle.crn_net.specs.declared.Flow.{Flow}
 use Rattle.crn_net_text.specs.Grammar.{species_at}
 use Rattle.crn_net_text.proofs.Found.{species_found}
 use Rattle.crn_net_text.proofs.Spelled.{species_spelled}
-use Rattle.crn_net_text.proofs.Spells.{species_tokens, species_here}
+use Rattle.crn_net_text.proofs.Spells.{species_here}
 use Rattle.crn_job.specs.declared.words.Word.{Word}
 use Rattle.crn_job.specs.declared.words.Word.TheVariants as word
 use Rattle.crn_job.specs.Words.{word_of, first_word}
@@ -27,7 +27,7 @@ use Rattle.crn_job.specs.Grammar.{Tail, numbers_of, number_of, flow, reaction_at
 use Rattle.crn_job.specs.Grammar as grammar
 use Rattle.crn_job.specs.RunGrammar.{Given, RunTail, given, given_of, last_species, run_follow}
 use Rattle.crn_job.specs.RunGrammar as run
-use Rattle.crn_job.specs.Spelled.{SpellsNumbers, SpellsFlow, SpellsFlows, SpellsSegment, SpellsAmount, SpellsInputLine, SpellsAmountLine, SpellsSegmentLine, Follows, FollowsRun}
+use Rattle.crn_job.specs.Spelled.{SpellsNumbers, SpellsFlow, SpellsFlows, SpellsSegment, SpellsAmount, Follows, FollowsRun}
 use Rattle.crn_job.proofs.Numbers.{one_is}
 use Rattle.crn_job.proofs.Flows.{segment_found}
 use Rattle.crn_job.proofs.Segments.{segment_found_is}
