@@ -17,3 +17,5 @@ pub mod ItemLaws
 pub mod WrittenLaws
 pub mod PlainPrinted
 pub mod SmallSpelled
+pub mod ParsedLaws
+pub mod ParsedWalks

@@ -1,5 +1,5 @@
 -- The longest number that begins some tokens.
-use Rattle.std.proofs.Common.{◌≡◌, ◌⊎◌, ℕ, zero, suc, ◌≤◌, pos, negsuc, false, inl, inr, List, [], ◌∷◌, length, take, Option, Some, None, refl, sym, ap, ◌∙◌, subst, ⊎_elim, arith}
+use Rattle.std.proofs.Common.{◌≡◌, ◌⊎◌, ℕ, zero, suc, ◌≤◌, pos, negsuc, false, inl, inr, List, [], ◌∷◌, ◌++◌, length, take, Option, Some, None, refl, sym, ap, ap₂, ◌∙◌, subst, ⊎_elim, arith}
 use Rattle.std.specs.Option.{option_map_or}
 use Rattle.std.proofs.lemmas.List.{length-take-le}
 use Rattle.std.proofs.lemmas.Option.{none-some, same_Some}
@@ -14,7 +14,7 @@ number_long : (ts : List Plain) (m : ℕ) (r : ℚ) → m ≤ length ts → Spel
 number_long ts m r within (Whole n, is, value) = inl (sym (length-take-le m ts within) ∙ ap length is)
 number_long ts m r within (Over n e, is, value) = inr (sym (length-take-le m ts within) ∙ ap length is)
 
-denominator_is : (us : List Plain) (e : ℕ) → denominator_at us ≡ Some e → (vs : List Plain) × (us ≡ PlainSign Slash ∷ PlainNumber (pos (suc e)) ∷ vs)
+pub denominator_is : (us : List Plain) (e : ℕ) → denominator_at us ≡ Some e → (vs : List Plain) × (us ≡ PlainSign Slash ∷ PlainNumber (pos (suc e)) ∷ vs)
 denominator_is (PlainSign Slash ∷ PlainNumber (pos (suc x)) ∷ vs) e h = (vs, ap (λ d. PlainSign Slash ∷ PlainNumber (pos (suc d)) ∷ vs) (same_Some x e h))
 denominator_is us e h = absurd (none-some e h)
 
@@ -77,3 +77,20 @@ number_found (PlainWord w ∷ us) = other_first (PlainWord w) us (λ x e. cc e)
 number_found (PlainNumber (pos n) ∷ us) = after_found n us
 number_found (PlainNumber (negsuc n) ∷ us) = other_first (PlainNumber (negsuc n)) us (λ x e. cc e)
 number_found (PlainSign sign ∷ us) = other_first (PlainSign sign) us (λ x e. cc e)
+
+-- a text of a number is found where nothing goes on with it
+pub number_here : (q : ℚ) (x y : List Plain) → SpellsNumber q x → denominator_at y ≡ None → fraction_at (x ++ y) ≡ Some (q, length x)
+number_here q x y (Whole n, is, value) none =
+    ap (λ l. fraction_at (l ++ y)) is
+    ∙ ap (λ o. Some (option_map_or (λ e. (fraction false (Over n e), 3)) o (fraction false (Whole n), 1))) none
+    ∙ ap₂ (λ r m. Some (r, m)) (sym value) (sym (ap length is))
+number_here q x y (Over n e, is, value) none = ap (λ l. fraction_at (l ++ y)) is ∙ ap₂ (λ r m. Some (r, m)) (sym value) (sym (ap length is))
+
+-- a text of a number goes on with nothing before it
+pub number_starts : (q : ℚ) (x y : List Plain) → SpellsNumber q x → denominator_at (x ++ y) ≡ None
+number_starts q x y (Whole n, is, value) = ap (λ l. denominator_at (l ++ y)) is
+number_starts q x y (Over n e, is, value) = ap (λ l. denominator_at (l ++ y)) is
+
+-- what is found is a text of the number
+pub number_spelled : (ts : List Plain) (q : ℚ) (m : ℕ) → fraction_at ts ≡ Some (q, m) → (m ≤ length ts) × SpellsNumber q (take m ts)
+number_spelled ts q m is = let found : IsLongestNumber ts q m = subst (IsNumberFound ts) is (number_found ts) in (found.within, found.spells)

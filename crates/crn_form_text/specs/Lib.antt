@@ -4,3 +4,4 @@ pub mod Built
 pub mod Shown
 pub mod Printing
 pub mod Written
+pub mod Parsed

@@ -5,6 +5,7 @@ ghost use Rattle.std.specs.Option.{option_map};
 ghost use Rattle.crn_token.specs.Plain.{plain_token};
 ghost use Rattle.crn_fraction.specs.Rational.{ℚ, 0ℚ};
 ghost use Rattle.crn_form_text.specs.Grammar.{SpellsForm, IsLongestPlain, BeginsNoPlain};
+ghost use Rattle.crn_form_text.specs.Parsed.{form_from};
 ghost use Rattle.crn_form_text.specs.Reading.{form_of, plain_form_at, placed_at, zero_at, mark_of, put, closed, term_next, name_next, in_term_next, form_next, plain_next, form_with, no_entries, at_place};
 
 use crate::mark::{Mark, mark_of};
@@ -219,7 +220,7 @@ fn form_in(bytes: &[u8], tokens: &[Token], variables: usize) -> Option<Form>
 /// where they spell none: a variable may stand in one term at most, and there may be one constant at most.
 pub fn read_form(bytes: &[u8], tokens: &[Token], variables: usize) -> Option<Form>
     requires { variables ≤ 8 }
-    ensures value { result ≡ form_of variables (map (plain_token bytes.now) tokens.now) }
+    ensures value { result ≡ form_from variables (map (plain_token bytes.now) tokens.now) }
     ensures spelled { IfSome result (λ form. SpellsForm variables form (map (plain_token bytes.now) tokens.now)) }
     ensures none { IfNone result ((form : List ℚ) → ¬ SpellsForm variables form (map (plain_token bytes.now) tokens.now)) }
 {

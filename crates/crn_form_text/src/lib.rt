@@ -13,6 +13,9 @@ mod print;
 
 pub use form::{narrow, read_form, read_plain_form};
 pub use formula::{FormulaText, read_formula};
-pub use laws::{one_meaning, plain_forms_are_nonnegative, printed_reads_back, printed_spells};
+pub use laws::{
+    one_meaning, plain_forms_are_nonnegative, printed_reads_back, printed_spells,
+    small_numbers_fit, spelled_by_cases, walks_by_cases,
+};
 pub use number::read_fraction;
 pub use print::{print_form, print_formula, print_fraction};

@@ -7,15 +7,14 @@ use Rattle.crn_grammar.specs.Table.{after, CanEnd}
 use Rattle.crn_grammar.proofs.TableLaws.{can_end}
 use Rattle.crn_formula.specs.Functions.{ByFormula}
 use Rattle.crn_form_text.specs.Built.{fitted}
-use Rattle.crn_form_text.specs.Reading.{form_of}
 use Rattle.crn_function_text.specs.declared.words.Word.{Word}
 use Rattle.crn_function_text.specs.declared.words.Word.TheVariants as word
 use Rattle.crn_function_text.specs.declared.words.Given.{Given}
 use Rattle.crn_function_text.specs.declared.words.Given.TheVariants as given
 use Rattle.crn_token.specs.Words.{rest_of, says}
 use Rattle.crn_function_text.specs.Words.{first_word, given_of}
-use Rattle.crn_function_text.specs.Spelled.{formula_of}
-use Rattle.crn_function_text.specs.Grammar.{PlainFunction, Place, Start, Header, Sized, Valued, InPieces, InForms, header, size, condition_of, plain_form_of, new_piece, with_condition, follow, allows, function_table}
+use Rattle.crn_function_text.specs.Spelled.{form_of, plain_form_of, formula_of}
+use Rattle.crn_function_text.specs.Grammar.{PlainFunction, Place, Start, Header, Sized, Valued, InPieces, InForms, header, size, condition_of, new_piece, with_condition, follow, allows, function_table}
 use Rattle.crn_function_text.proofs.Spelled.{some_form, some_plain_form, some_formula}
 
 -- ---- what is not allowed

@@ -20,17 +20,17 @@ use Rattle.crn_formula.specs.Formulas.{node_count, depth_of}
 use Rattle.crn_formula.specs.Pieces.{Piece}
 use Rattle.crn_formula.specs.Functions.{IsPieceOver, IsFitting, condition_count}
 use Rattle.crn_form_text.specs.Built.{fitted}
-use Rattle.crn_form_text.specs.Reading.{form_of}
 use Rattle.crn_function_text.specs.declared.words.Word.{Word}
 use Rattle.crn_function_text.specs.declared.words.Word.TheVariants as word
 use Rattle.crn_function_text.specs.declared.words.Given.{Given}
 use Rattle.crn_function_text.specs.declared.words.Given.TheVariants as given
 use Rattle.crn_token.specs.Words.{rest_of, says}
 use Rattle.crn_function_text.specs.Words.{first_word, given_of}
-use Rattle.crn_function_text.specs.Spelled.{formula_of}
-use Rattle.crn_function_text.specs.Grammar.{PlainFunction, function_table, whole, Place, Start, Header, Sized, Valued, InPieces, InForms, header, size, is_at_least_zero, condition_of, plain_form_of, new_piece, with_condition, follow, limit}
+use Rattle.crn_function_text.specs.Spelled.{form_of, plain_form_of, formula_of}
+use Rattle.crn_function_text.specs.Grammar.{PlainFunction, function_table, whole, Place, Start, Header, Sized, Valued, InPieces, InForms, header, size, is_at_least_zero, condition_of, new_piece, with_condition, follow, limit}
 use Rattle.crn_function_text.specs.Reading.{IsKept}
-use Rattle.crn_function_text.proofs.Spelled.{formula_spelled, spelled_over, form_long, plain_form_long, plain_form_nonnegative}
+use Rattle.crn_form_text.proofs.ParsedLaws.{formula_from_is}
+use Rattle.crn_function_text.proofs.Spelled.{spelled_over, form_long, plain_form_long, plain_form_nonnegative}
 use Rattle.crn_function_text.proofs.Narrowing.{formula_fits, kept_fits, forms_fit, fitted_nodes, fitted_depth}
 
 -- ---- the place after a line, if it passes no limit
@@ -54,7 +54,7 @@ kept_value : (k : ℕ) (rest : List Plain) → 1 ≤ k → k ≤ 8 → KeptNext 
 kept_value k rest some few =
     kept_map (λ e. Valued k (fitted k e)) (formula_of k rest) (λ e is low.
     let (nodes, depth) = neither (above 2048 counted.Nodes (node_count (fitted k e))) (above 64 counted.Depth (depth_of (fitted k e))) low in
-    formula_fits k e some few (spelled_over k e rest (formula_spelled k e rest few is))
+    formula_fits k e some few (spelled_over k e rest (formula_from_is k e rest is))
     (omega (arith, not_passed 2048 counted.Nodes (node_count (fitted k e)) nodes, fitted_nodes k e))
     (omega (arith, not_passed 64 counted.Depth (depth_of (fitted k e)) depth, fitted_depth k e)))
 
@@ -69,7 +69,7 @@ kept_first k rest some few =
       some,
       few,
       record {
-        over = All-push (IsPieceOver (k + 1)) [] (new_piece f) (All-nil (IsPieceOver (k + 1))) (new_over (k + 1) f (form_long k f rest few is));
+        over = All-push (IsPieceOver (k + 1)) [] (new_piece f) (All-nil (IsPieceOver (k + 1))) (new_over (k + 1) f (form_long k f rest is));
         few = record {
           some = omega arith;
           few = omega arith;
@@ -86,7 +86,7 @@ kept_piece k done last rest (some, few, kept) =
       some,
       few,
       record {
-        over = All-push (IsPieceOver (k + 1)) (done ++ last ∷ []) (new_piece f) kept.over (new_over (k + 1) f (form_long k f rest few is));
+        over = All-push (IsPieceOver (k + 1)) (done ++ last ∷ []) (new_piece f) kept.over (new_over (k + 1) f (form_long k f rest is));
         few = record {
           some = omega (arith, length-append (done ++ last ∷ []) (new_piece f ∷ []));
           few = omega (arith, count, length-append (done ++ last ∷ []) (new_piece f ∷ []));
@@ -131,7 +131,7 @@ kept_when k done last rest kept =
     kept_map (λ c. InPieces k done (with_condition last c)) (condition_of k rest) (λ c is low. kept_with k done last c kept (long (is_at_least_zero (drop (length rest - 2) rest)) c is) low)
   where
     long : (b : Bool) (c : List ℚ) → cond b (form_of k (take (length rest - 2) rest)) None ≡ Some c → length c ≡ k + 1
-    long true c is = form_long k c (take (length rest - 2) rest) kept.1 is
+    long true c is = form_long k c (take (length rest - 2) rest) is
     long false c is = let wrong : ◌≡◌ {A = Option (List ℚ)} None (Some c) = is in cc
 
 kept_form : (k : ℕ) (forms : List (List ℚ)) (rest : List Plain) → 1 ≤ k → k ≤ 8 → All (λ f. length f ≡ k) forms → All (All (λ c. 0ℚ ≤ℚ c)) forms
@@ -141,11 +141,11 @@ kept_form k forms rest some few over nonnegative =
       some,
       few,
       record {
-        over = All-push (λ g. length g ≡ k) forms f over (plain_form_long k f rest few is);
+        over = All-push (λ g. length g ≡ k) forms f over (plain_form_long k f rest is);
         few = record {
           some = omega (arith, length-append forms (f ∷ []));
           few = not_passed 32 counted.Forms (length (forms ++ f ∷ [])) low;
-          nonnegative = All-push (All (λ c. 0ℚ ≤ℚ c)) forms f nonnegative (plain_form_nonnegative k f rest few is);
+          nonnegative = All-push (All (λ c. 0ℚ ≤ℚ c)) forms f nonnegative (plain_form_nonnegative k f rest is);
         };
       },
     ))

@@ -16,7 +16,6 @@ use Rattle.crn_formula.specs.Functions.{Kind, ByFormula, ByPieces, ByLeast, IsPi
 use Rattle.crn_formula.specs.Numbers.{HasFracs, HasPieceFracs, HasKindFracs}
 use Rattle.crn_linear.specs.Fracs.{AreFracs, AreFormFracs}
 use Rattle.crn_form_text.specs.Built.{fitted}
-use Rattle.crn_form_text.specs.Reading.{form_of}
 use Rattle.crn_form_text.specs.Printing.{AreFracsOf, FitsText}
 use Rattle.crn_form_text.proofs.SmallSpelled.{form_spelled_fits, plain_spelled_fits, formula_spelled_fits, fitted_fits, narrow_fits_form}
 use Rattle.crn_function_text.specs.declared.words.Word.{Word}
@@ -26,12 +25,11 @@ use Rattle.crn_function_text.specs.declared.words.Given.TheVariants as given
 use Rattle.crn_token.specs.Words.{rest_of, says}
 use Rattle.crn_function_text.specs.Words.{first_word, given_of}
 use Rattle.crn_function_text.specs.Columns.{kept_columns, narrow_piece}
-use Rattle.crn_function_text.specs.Spelled.{formula_of}
-use Rattle.crn_function_text.specs.Grammar.{PlainFunction, function_table, whole, Place, Start, Header, Sized, Valued, InPieces, InForms, header, size, is_at_least_zero, condition_of, plain_form_of, new_piece, with_condition, follow, limit}
+use Rattle.crn_function_text.specs.Spelled.{form_of, plain_form_of, formula_of}
+use Rattle.crn_function_text.specs.Grammar.{PlainFunction, function_table, whole, Place, Start, Header, Sized, Valued, InPieces, InForms, header, size, is_at_least_zero, condition_of, new_piece, with_condition, follow, limit}
 use Rattle.crn_function_text.specs.Printing.{ArePieceFracs, AreKindFracs}
 use Rattle.crn_function_text.specs.Reading.{IsKept}
-use Rattle.crn_form_text.proofs.FormSpells.{form_spelled}
-use Rattle.crn_function_text.proofs.Spelled.{formula_spelled, all_found}
+use Rattle.crn_form_text.proofs.ParsedLaws.{form_from_is, plain_form_from_is, formula_from_is}
 use Rattle.crn_function_text.proofs.Kept.{kept_next, some_function, all_before, all_last, text_fits}
 
 -- the numbers of a place are fractions that fit
@@ -64,14 +62,14 @@ fitting_size : (g : Given) (rest : List Plain) → FittingNext (size g rest)
 fitting_size g (PlainNumber (pos (suc k)) ∷ []) = tt
 fitting_size g _ = tt
 
-form_fits : (k : ℕ) (f : List ℚ) (rest : List Plain) → k ≤ 8 → AreSmall rest → form_of k rest ≡ Some f → AreFracsOf k f
-form_fits k f rest few small is = form_spelled_fits k f rest (form_spelled k f rest few is) small
+form_fits : (k : ℕ) (f : List ℚ) (rest : List Plain) → AreSmall rest → form_of k rest ≡ Some f → AreFracsOf k f
+form_fits k f rest small is = form_spelled_fits k f rest (form_from_is k f rest is) small
 
-condition_fits : (k : ℕ) (c : List ℚ) (rest : List Plain) → k ≤ 8 → AreSmall rest → condition_of k rest ≡ Some c → AreFracsOf k c
-condition_fits k c rest few small is = go (is_at_least_zero (drop (length rest - 2) rest)) is
+condition_fits : (k : ℕ) (c : List ℚ) (rest : List Plain) → AreSmall rest → condition_of k rest ≡ Some c → AreFracsOf k c
+condition_fits k c rest small is = go (is_at_least_zero (drop (length rest - 2) rest)) is
   where
     go : (b : Bool) → cond b (form_of k (take (length rest - 2) rest)) None ≡ Some c → AreFracsOf k c
-    go true here = form_fits k c (take (length rest - 2) rest) few (small_take (length rest - 2) rest small) here
+    go true here = form_fits k c (take (length rest - 2) rest) (small_take (length rest - 2) rest small) here
     go false here = let wrong : ◌≡◌ {A = Option (List ℚ)} None (Some c) = here in cc
 
 with_fits : (k : ℕ) (p : Piece) (c : List ℚ) → AreFracsOf k c → ArePieceFracs k p → ArePieceFracs k (with_condition p c)
@@ -81,18 +79,18 @@ fitting_follow : (s : Place) (w : Word) (rest : List Plain) → AreSmall rest �
 fitting_follow Start word.Function rest small kept fits = fitting_header rest
 fitting_follow (Header g) word.Variables rest small kept fits = fitting_size g rest
 fitting_follow (Sized given.Formula k) word.Value rest small kept fits =
-    fitting_map (λ e. Valued k (fitted k e)) (formula_of k rest) (λ e is. fitted_fits k e (formula_spelled_fits k e rest kept.1 (formula_spelled k e rest kept.1 is) small))
+    fitting_map (λ e. Valued k (fitted k e)) (formula_of k rest) (λ e is. fitted_fits k e (formula_spelled_fits k e rest kept.1 (formula_from_is k e rest is) small))
 fitting_follow (Sized given.Pieces k) word.Piece rest small kept fits =
-    fitting_map (λ f. InPieces k [] (new_piece f)) (form_of k rest) (λ f is. All-push (ArePieceFracs k) [] (new_piece f) (All-nil (ArePieceFracs k)) (new_fits k f (form_fits k f rest kept.1 small is)))
+    fitting_map (λ f. InPieces k [] (new_piece f)) (form_of k rest) (λ f is. All-push (ArePieceFracs k) [] (new_piece f) (All-nil (ArePieceFracs k)) (new_fits k f (form_fits k f rest small is)))
 fitting_follow (Sized given.Direct k) word.Form rest small kept fits =
-    fitting_map (λ f. InForms k (f ∷ [])) (plain_form_of k rest) (λ f is. All-push (AreFracsOf k) [] f (All-nil (AreFracsOf k)) (plain_spelled_fits k f rest (all_found k f rest kept.1 is) small))
+    fitting_map (λ f. InForms k (f ∷ [])) (plain_form_of k rest) (λ f is. All-push (AreFracsOf k) [] f (All-nil (AreFracsOf k)) (plain_spelled_fits k f rest (plain_form_from_is k f rest is) small))
 fitting_follow (InPieces k done last) word.Piece rest small kept fits =
-    fitting_map (λ f. InPieces k (done ++ last ∷ []) (new_piece f)) (form_of k rest) (λ f is. All-push (ArePieceFracs k) (done ++ last ∷ []) (new_piece f) fits (new_fits k f (form_fits k f rest kept.1 small is)))
+    fitting_map (λ f. InPieces k (done ++ last ∷ []) (new_piece f)) (form_of k rest) (λ f is. All-push (ArePieceFracs k) (done ++ last ∷ []) (new_piece f) fits (new_fits k f (form_fits k f rest small is)))
 fitting_follow (InPieces k done last) word.When rest small kept fits =
     fitting_map (λ c. InPieces k done (with_condition last c)) (condition_of k rest) (λ c is.
-    All-push (ArePieceFracs k) done (with_condition last c) (all_before (ArePieceFracs k) done last fits) (with_fits k last c (condition_fits k c rest kept.1 small is) (all_last (ArePieceFracs k) done last fits)))
+    All-push (ArePieceFracs k) done (with_condition last c) (all_before (ArePieceFracs k) done last fits) (with_fits k last c (condition_fits k c rest small is) (all_last (ArePieceFracs k) done last fits)))
 fitting_follow (InForms k forms) word.Form rest small kept fits =
-    fitting_map (λ f. InForms k (forms ++ f ∷ [])) (plain_form_of k rest) (λ f is. All-push (AreFracsOf k) forms f fits (plain_spelled_fits k f rest (all_found k f rest kept.1 is) small))
+    fitting_map (λ f. InForms k (forms ++ f ∷ [])) (plain_form_of k rest) (λ f is. All-push (AreFracsOf k) forms f fits (plain_spelled_fits k f rest (plain_form_from_is k f rest is) small))
 fitting_follow _ _ rest small kept fits = tt
 
 -- what a line says is small

@@ -1,9 +1,8 @@
 -- The lines of a printed function are answered with that function.
-use Rattle.std.proofs.Common.{◌≡◌, ℕ, zero, suc, ◌+◌, ◌-◌, ◌≤◌, false, cond, pos, List, [], ◌∷◌, ◌++◌, length, take, map, ⊎_elim, take_all, Option, Some, None, refl, sym, ap, ◌∙◌, subst, arith, append_assoc, append-nil, take_at, drop_at, length-append, eq-eqb}
+use Rattle.std.proofs.Common.{◌≡◌, ℕ, zero, suc, ◌+◌, ◌-◌, ◌≤◌, false, cond, pos, List, [], ◌∷◌, ◌++◌, length, map, Some, None, refl, sym, ap, ◌∙◌, subst, arith, append_assoc, append-nil, take_at, drop_at, length-append}
 use Rattle.std.specs.Prelude.{codes, All}
 use Rattle.std.specs.List.{flat_map, sum_by, list_any}
 use Rattle.std.specs.Option.{option_map, option_map_or}
-use Rattle.std.proofs.lemmas.Bool.{cases_lt}
 use Rattle.std.proofs.lemmas.List.{length-map}
 use Rattle.std.proofs.lemmas.List.Sums.{sum_by-cons, sum_by-append}
 use Rattle.crn_token.specs.declared.Sign.TheVariants.{AtLeast}
@@ -18,25 +17,21 @@ use Rattle.crn_formula.specs.Formulas.{Formula, node_count, depth_of, formula_ha
 use Rattle.crn_formula.specs.Pieces.{Piece}
 use Rattle.crn_formula.specs.Functions.{Kind, ByFormula, ByPieces, ByLeast, condition_count, columns, piece_has_constant, IsFitting}
 use Rattle.crn_form_text.specs.Built.{fitted}
-use Rattle.crn_form_text.specs.Grammar.{SpellsPlain}
-use Rattle.crn_form_text.specs.Reading.{form_of, plain_form_at}
 use Rattle.crn_form_text.specs.Printing.{form_items, formula_items, with_constant, with_constants}
-use Rattle.crn_form_text.proofs.FormSpells.{spelled_form}
-use Rattle.crn_form_text.proofs.PlainSpells.{IsFound, plain_found}
+use Rattle.crn_form_text.proofs.ParsedLaws.{is_form_from, is_plain_form_from, is_formula_from}
 use Rattle.crn_form_text.proofs.PlainPrinted.{plain_printed}
-use Rattle.crn_form_text.proofs.Meanings.{one_plain}
 use Rattle.crn_token.proofs.Joins.{shown-append}
 use Rattle.crn_form_text.proofs.PrintLaws.{form_printed, formula_printed}
 use Rattle.crn_function_text.specs.declared.words.Given.{Given}
 use Rattle.crn_function_text.specs.declared.words.Given.TheVariants as given
 use Rattle.crn_function_text.specs.Words.{given_of}
 use Rattle.crn_function_text.specs.Columns.{kept_columns}
-use Rattle.crn_function_text.specs.Grammar.{PlainFunction, Place, Start, Header, Sized, Valued, InPieces, InForms, condition_of, if_all, plain_form_of, size, new_piece, with_condition, next, limit, function_table}
+use Rattle.crn_function_text.specs.Grammar.{PlainFunction, Place, Start, Header, Sized, Valued, InPieces, InForms, condition_of, size, new_piece, with_condition, next, limit, function_table}
 use Rattle.crn_function_text.specs.Printing.{function_lines, word_line, kind_word, kind_lines, value_line, piece_line, when_line, form_line, piece_lines}
-use Rattle.crn_function_text.proofs.Spelled.{formula_found}
+use Rattle.crn_function_text.specs.Spelled.{form_of, plain_form_of}
 use Rattle.crn_grammar.proofs.LimitLaws.{not_above}
 use Rattle.crn_function_text.proofs.GrammarLaws.{function_can_end}
-use Rattle.crn_function_text.proofs.PrintedColumns.{with_piece, columns_for, columns_least, constants_nodes, formula_back, pieces_back}
+use Rattle.crn_function_text.proofs.PrintedColumns.{with_piece, columns_for, columns_least, formula_back, pieces_back}
 
 -- how a function is given
 abbrev given_by : Kind → Given
@@ -46,7 +41,7 @@ given_by (ByLeast forms) = given.Direct
 
 -- ---- what a line says
 form_reads : (k : ℕ) (form : List ℚ) → k ≤ 8 → k ≤ length form → form_of k (shown (form_items k form)) ≡ Some (with_constant k form)
-form_reads k form few long = spelled_form k (with_constant k form) (shown (form_items k form)) few (form_printed k form long)
+form_reads k form few long = is_form_from k (with_constant k form) (shown (form_items k form)) (form_printed k form long)
 
 condition_at : (k : ℕ) (ts : List Plain) → condition_of k (ts ++ (PlainSign AtLeast ∷ PlainNumber (pos 0) ∷ [])) ≡ form_of k ts
 condition_at k ts =
@@ -130,24 +125,7 @@ module _ (end : ℕ) where
   -- ---- forms of which the least counts
   -- a printed form is all of its line
   plain_reads : (k : ℕ) (form : List ℚ) → k ≤ 8 → length form ≡ k → All (λ c. 0ℚ ≤ℚ c) form → plain_form_of k (shown (form_items k form)) ≡ Some form
-  plain_reads k form small long low = go (plain_form_at k (shown (form_items k form))) (plain_found k (shown (form_items k form)) small)
-    where
-      spells : SpellsPlain k form (shown (form_items k form))
-      spells = plain_printed k form long low
-
-      whole : SpellsPlain k form (take (length (shown (form_items k form))) (shown (form_items k form)))
-      whole = subst (SpellsPlain k form) (sym (take_all (length (shown (form_items k form))) (shown (form_items k form)) (omega arith))) spells
-
-      go : (o : Option (List ℚ × ℕ)) → IsFound k (shown (form_items k form)) o → if_all (length (shown (form_items k form))) o ≡ Some form
-      go None none = absurd (none (length (shown (form_items k form))) form (omega arith) whole)
-      go (Some (g, n)) (within, is, longest) =
-          ⊎_elim
-          (λ less. absurd (longest (length (shown (form_items k form))) form less (omega arith) whole))
-          (λ more.
-          let all : n ≡ length (shown (form_items k form)) = omega (arith, within, more) in
-          let same : g ≡ form = one_plain k g form (shown (form_items k form)) small (subst (SpellsPlain k g) (ap (λ m. take m (shown (form_items k form))) all ∙ take_all (length (shown (form_items k form))) (shown (form_items k form)) (omega arith)) is) spells in
-          ap (λ b. cond b (Some g) None) (eq-eqb n (length (shown (form_items k form))) all) ∙ ap (λ f. Some f) same)
-          (cases_lt n (length (shown (form_items k form))))
+  plain_reads k form small long low = is_plain_form_from k form (shown (form_items k form)) (plain_printed k form long low)
 
   forms_run : (k : ℕ) (done fs : List (List ℚ)) (n : ℕ) → k ≤ 8 → All (λ f. length f ≡ k) fs → All (All (λ c. 0ℚ ≤ℚ c)) fs → length done + length fs ≤ 32
       → answered (InForms k done) (lines_read n (map (form_line k) fs)) ≡ Read (record { variables = k; kind = ByLeast (done ++ fs) })
@@ -168,8 +146,8 @@ module _ (end : ℕ) where
   formula_run : (k : ℕ) (e : Formula) → IsFitting k (ByFormula e) → kind_run k (ByFormula e)
   formula_run k e fitting n =
       let cols = columns_for k (columns k (ByFormula e)) e (columns_least k (formula_has_constant k e)) fitting.forms in
-      let (d, is, nodes, depth, same) = formula_found k (with_constants k e) (shown (formula_items k e)) fitting.few (formula_printed k e cols) in
-      let back : fitted k d ≡ e = ap (fitted k) (same (omega (arith, constants_nodes k e, fitting.limits.nodes))) ∙ formula_back k e fitting.forms in
+      let is = is_formula_from k (with_constants k e) (shown (formula_items k e)) (formula_printed k e cols) in
+      let back : fitted k (with_constants k e) ≡ e = formula_back k e fitting.forms in
       let reads : next (Sized given.Formula k) (record { number = n; bad = false; tokens = shown (value_line k e) }) ≡ Some (Valued k e) = ap (option_map (λ g. Valued k (fitted k g))) is ∙ ap (λ g. Some (Valued k g)) back in
       step (Sized given.Formula k) (Valued k e) (value_line k e) n [] reads
       (rw (not_above 2048 counted.Nodes (node_count e) fitting.limits.nodes, not_above 64 counted.Depth (depth_of e) fitting.limits.depth) refl)

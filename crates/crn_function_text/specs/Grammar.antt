@@ -1,5 +1,5 @@
 -- The grammar of function text: which line may follow which, apart from how a text is read.
-use Rattle.std.specs.Prelude.{ℕ, zero, suc, ◌+◌, ◌-◌, Bool, true, false, ◌==◌, pos, List, [], ◌∷◌, ◌++◌, length, take, drop, Option, Some, None, if◌then◌else◌}
+use Rattle.std.specs.Prelude.{ℕ, zero, suc, ◌+◌, ◌-◌, Bool, true, false, pos, List, [], ◌∷◌, ◌++◌, length, take, drop, Option, Some, None, if◌then◌else◌}
 use Rattle.std.specs.List.{sum_by}
 use Rattle.std.specs.Option.{option_map}
 use Rattle.crn_fraction.specs.Rational.{ℚ}
@@ -15,13 +15,12 @@ use Rattle.crn_formula.specs.Formulas.{Formula, node_count, depth_of}
 use Rattle.crn_formula.specs.Pieces.{Piece}
 use Rattle.crn_formula.specs.Functions.{Kind, ByFormula, ByPieces, ByLeast, condition_count}
 use Rattle.crn_form_text.specs.Built.{fitted}
-use Rattle.crn_form_text.specs.Reading.{form_of, plain_form_at}
 use Rattle.crn_function_text.specs.declared.words.Word.{Word}
 use Rattle.crn_function_text.specs.declared.words.Word.TheVariants as word
 use Rattle.crn_function_text.specs.declared.words.Given.{Given}
 use Rattle.crn_function_text.specs.declared.words.Given.TheVariants as given
 use Rattle.crn_function_text.specs.Words.{first_word, given_of}
-use Rattle.crn_function_text.specs.Spelled.{formula_of}
+use Rattle.crn_function_text.specs.Spelled.{form_of, plain_form_of, formula_of}
 use Rattle.crn_function_text.specs.Columns.{kept_columns}
 
 -- a function: how many variables it has, and how it is given
@@ -61,15 +60,6 @@ condition_of k tokens =
     if is_at_least_zero (drop (length tokens - 2) tokens)
     then form_of k (take (length tokens - 2) tokens)
     else None
-
--- the form, if it has all the tokens
-abbrev pub if_all : ℕ → Option (List ℚ × ℕ) → Option (List ℚ)
-if_all count None = None
-if_all count (Some (form, taken)) = if taken == count then Some form else None
-
--- a form without negative coefficients, and nothing after it
-abbrev pub plain_form_of : ℕ → List Plain → Option (List ℚ)
-plain_form_of k tokens = if_all (length tokens) (plain_form_at k tokens)
 
 abbrev pub new_piece : List ℚ → Piece
 new_piece form = record { conditions = []; form = form }

@@ -1,27 +1,22 @@
 //! What holds of function text. Each function here does nothing: its contract is a theorem about the definitions of `specs/`.
-ghost use Rattle.std.specs.Prelude.{ℕ, List, Some, None, ◌≡◌, ◌≤◌, ◌↔◌};
+ghost use Rattle.std.specs.Prelude.{ℕ, List, Some, ◌≡◌, ◌↔◌};
 ghost use Rattle.crn_fraction.specs.Rational.{ℚ};
 ghost use Rattle.crn_token.specs.Plain.{Plain, PlainLine, plain_lines};
 ghost use Rattle.crn_token.specs.Printed.{lines_read};
 ghost use Rattle.crn_grammar.specs.Table.{CanEnd, IsText, PassesNone};
-ghost use Rattle.crn_formula.specs.Formulas.{Formula, node_count, depth_of};
+ghost use Rattle.crn_formula.specs.Formulas.{Formula};
 ghost use Rattle.crn_formula.specs.Functions.{IsFitting};
 ghost use Rattle.crn_formula.specs.Numbers.{HasKindFracs};
 ghost use Rattle.crn_form_text.specs.Grammar.{SpellsForm, SpellsPlain, SpellsFormula};
-ghost use Rattle.crn_form_text.specs.Reading.{form_of};
-ghost use Rattle.crn_function_text.specs.Grammar.{PlainFunction, function_table, plain_form_of};
+ghost use Rattle.crn_function_text.specs.Grammar.{PlainFunction, function_table};
 ghost use Rattle.crn_function_text.specs.Printing.{function_lines, function_text, AreKindFracs};
-ghost use Rattle.crn_function_text.specs.Spelled.{formula_of};
+ghost use Rattle.crn_function_text.specs.Spelled.{form_of, plain_form_of, formula_of};
 
-/// What the lines of the grammar take for a form or a formula is what the tokens spell, and there is none exactly where they spell none.
+/// What the lines of the grammar take for a form or a formula is what the tokens spell, over any number of variables, and there is none exactly where they spell none.
 pub fn lines_say_what_tokens_spell()
-    ensures form { (k : ℕ) (form : List ℚ) (tokens : List Plain) → k ≤ 8 → (form_of k tokens ≡ Some form) ↔ SpellsForm k form tokens }
-    ensures plain_form { (k : ℕ) (form : List ℚ) (tokens : List Plain) → k ≤ 8 → plain_form_of k tokens ≡ Some form → SpellsPlain k form tokens }
-    ensures no_plain_form { (k : ℕ) (form : List ℚ) (tokens : List Plain) → k ≤ 8 → plain_form_of k tokens ≡ None → ¬ SpellsPlain k form tokens }
-    ensures formula { (k : ℕ) (e : Formula) (tokens : List Plain) → k ≤ 8 → formula_of k tokens ≡ Some e → SpellsFormula k e tokens }
-    ensures no_formula { (k : ℕ) (e : Formula) (tokens : List Plain) → k ≤ 8 → formula_of k tokens ≡ None → ¬ SpellsFormula k e tokens }
-    // All formulas that the tokens spell have as many nodes and are as deep.
-    ensures counts { (k : ℕ) (e f : Formula) (tokens : List Plain) → k ≤ 8 → SpellsFormula k e tokens → SpellsFormula k f tokens → (node_count e ≡ node_count f) × (depth_of e ≡ depth_of f) }
+    ensures form { (k : ℕ) (form : List ℚ) (tokens : List Plain) → (form_of k tokens ≡ Some form) ↔ SpellsForm k form tokens }
+    ensures plain_form { (k : ℕ) (form : List ℚ) (tokens : List Plain) → (plain_form_of k tokens ≡ Some form) ↔ SpellsPlain k form tokens }
+    ensures formula { (k : ℕ) (e : Formula) (tokens : List Plain) → (formula_of k tokens ≡ Some e) ↔ SpellsFormula k e tokens }
 {}
 
 /// Wherever lines lead that begin a text, some lines more end one. So the answer line by line is the right one.

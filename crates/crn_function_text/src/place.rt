@@ -9,10 +9,8 @@ ghost use Rattle.crn_grammar.specs.Reading.{judged, Gives};
 ghost use Rattle.crn_formula.specs.Domains.{domain_for};
 ghost use Rattle.crn_formula.specs.Views.{kind_of, pieces_of, piece_of};
 ghost use Rattle.crn_form_text.specs.Built.{fitted};
-ghost use Rattle.crn_form_text.specs.Reading.{form_of};
-ghost use Rattle.crn_function_text.specs.Spelled.{formula_of};
+ghost use Rattle.crn_function_text.specs.Spelled.{form_of, plain_form_of, formula_of};
 ghost use Rattle.crn_function_text.specs.Grammar as grammar;
-ghost use Rattle.crn_function_text.specs.Grammar.{plain_form_of};
 ghost use Rattle.crn_function_text.specs.Reading.{shown, function_of, IsKept, AreKeptPieces, AreKeptForms};
 
 use crate::FunctionTextError;

@@ -16,7 +16,8 @@ use Rattle.std.proofs.Math.Seq.{take-append_seam, take-append-add, drop-append_s
 use Rattle.crn_form_text.specs.Grammar.{Numeral, Whole, Over, numeral_tokens, minus_before, Term, Variable, Multiple, Constant, name_tokens, term_tokens, Signed, sign_before, more_tokens, form_tokens, SpellsPlain}
 use Rattle.crn_form_text.specs.Reading.{plain_form_at, placed_at}
 use Rattle.crn_form_text.proofs.PlainSpells.{IsFound, plain_found}
-use Rattle.crn_form_text.proofs.Meanings.{one_plain, plain_long, plain_nonnegative}
+use Rattle.crn_form_text.proofs.Meanings.{plain_long, plain_nonnegative}
+use Rattle.crn_form_text.proofs.ParsedLaws.{one_plain_form_from}
 use Rattle.crn_gated.specs.Forms.{GatedForm, IsGateOver, IsGatedForm}
 use Rattle.crn_gated.specs.Grammar.{gate_tokens, SpellsGated, within, variable_at, named_gate, gate_of, gated, gated_form_of}
 
@@ -223,7 +224,7 @@ spelled_gated k f ts few spelled = subst (λ us. gated_form_of k us ≡ Some f) 
     read h n same spells =
         let whole : take n all ≡ xs = ap (λ m. take m all) same ∙ take-append_seam xs (gate_tokens f.gate) in
         let left : drop n all ≡ gate_tokens f.gate = ap (λ m. drop m all) same ∙ drop-append_seam xs (gate_tokens f.gate) in
-        let one : h ≡ f.form = one_plain k h f.form xs few (subst (SpellsPlain k h) whole spells) spelled.spells in
+        let one : h ≡ f.form = one_plain_form_from k h f.form xs (subst (SpellsPlain k h) whole spells) spelled.spells in
         ap (λ us. option_map (gated h) (gate_of k us)) left ∙ ap (option_map (gated h)) (gate_read k f.gate spelled.over) ∙ ap (λ g. Some (gated g f.gate)) one
 
     go : (o : Option (List ℚ × ℕ)) → plain_form_at k all ≡ o → IsFound k all (plain_form_at k all) → gated_form_of k all ≡ Some f

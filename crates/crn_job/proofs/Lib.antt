@@ -8,3 +8,4 @@ pub mod RunSteps
 pub mod JobLaws
 pub mod RunLaws
 pub mod KeptJobs
+pub mod Spelled

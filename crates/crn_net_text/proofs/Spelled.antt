@@ -58,7 +58,7 @@ none_more n [] is = refl
 none_more n (t ∷ ts) is = absurd (omega (arith, is))
 
 -- ---- parts and sides
-species_spelled : (low n a : ℕ) (ts : List Plain) → species_at low n ts ≡ Some a → (more : List Plain) × (ts ≡ species_tokens a more)
+pub species_spelled : (low n a : ℕ) (ts : List Plain) → species_at low n ts ≡ Some a → (more : List Plain) × (ts ≡ species_tokens a more)
 species_spelled low n a ts is =
     let (test, rest) = if_found (begins (codes "S") ts) (option_and_then (within low n) (number_at (rest_of ts))) a is in
     let (m, here, fits) = then_found (within low n) (number_at (rest_of ts)) a rest in

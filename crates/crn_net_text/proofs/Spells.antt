@@ -53,7 +53,7 @@ goes-append s t (x ∷ xs) ys is = go (λ u there. goes-append u t xs ys there) 
 abbrev pub species_tokens : ℕ → List Plain → List Plain
 species_tokens a more = PlainWord (codes "S") ∷ PlainNumber (pos a) ∷ more
 
-species_here : (low n a : ℕ) (more : List Plain) → low < a → a ≤ n → species_at low n (species_tokens a more) ≡ Some a
+pub species_here : (low n a : ℕ) (more : List Plain) → low < a → a ≤ n → species_at low n (species_tokens a more) ≡ Some a
 species_here low n a more above below =
     let above_is : nat_lt low a ≡ true = lt-ltb low a above in
     let below_is : nat_le a n ≡ true = le-leb a n below in

@@ -1,5 +1,5 @@
 -- What refusals say that are for no limit, by what is found.
-use Rattle.std.proofs.Common.{◌≡◌, ℕ, List, [], ◌∷◌, ◌++◌, None, Some, refl, sym, ap, ◌∙◌, subst, inl, inr}
+use Rattle.std.proofs.Common.{◌≡◌, ◌≢◌, ℕ, List, [], ◌∷◌, ◌++◌, None, Some, refl, sym, ap, ◌∙◌, subst, inl, inr}
 use Rattle.std.specs.Prelude.{codes}
 use Rattle.std.specs.Fmt.{decimal}
 use Rattle.crn_fraction.specs.Rational.{ℚ}
@@ -15,12 +15,10 @@ use Rattle.crn_compile.specs.Refusals.{IsRefusedByPieces, IsRefused as IsCause}
 use Rattle.crn_compile.specs.declared.CompileError.{CompileError}
 use Rattle.crn_compile.specs.declared.CompileError.TheVariants as cause
 use Rattle.crn_compile.proofs.NetworkLaws as networks
-use Rattle.crn_segments.specs.Flows.{IsSegment}
 use Rattle.crn_segments.specs.Steps.{AreSegments}
 use Rattle.crn_segments.specs.declared.StepError.{StepError}
 use Rattle.crn_segments.specs.declared.StepError.TheVariants as step
-use Rattle.crn_segments.proofs.Runs.{steps_run}
-use Rattle.crn_segments.proofs.Steps.{legal_goes}
+use Rattle.crn_segments.proofs.StepCauses.{illegal_cause}
 use Rattle.crn_job.specs.Grammar.{PlainJob}
 use Rattle.crn_job.specs.RunGrammar.{PlainRunJob}
 use Rattle.crn_job.proofs.KeptJobs.{text_job, text_run_job}
@@ -41,6 +39,7 @@ use Rattle.crn_program.specs.declared.words.Command.TheVariants.{OfText}
 use Rattle.crn_program.specs.declared.words.TextCommand.TheVariants.{Compile, Complete, Run, CompleteGated}
 use Rattle.crn_program.specs.declared.status.Status.{Status}
 use Rattle.crn_program.specs.declared.status.Status.TheVariants as status
+use Rattle.crn_program.proofs.Causes.{those_before, segment_stops}
 use Rattle.crn_program.proofs.Done.{comes_in_text}
 use Rattle.crn_program.proofs.Endings.{found_by, of_segments}
 
@@ -127,25 +126,29 @@ told t (step.NotPresent r s) text is text_is = (codes " reaction " ++ (decimal r
 told t (step.TooBig s) text is text_is = absurd is
 told t (step.TakesMore s) text is text_is = (codes " takes more S" ++ (decimal s ++ codes " than is there"), text_is)
 
-those_before : (before : List (List Flow)) (u : List Flow) (rest : List (List Flow)) → AreSegments (before ++ u ∷ rest) → AreSegments before × IsSegment u
-those_before [] u rest all = (tt, all.0)
-those_before (v ∷ before) u rest all = let more = those_before before u rest all.1 in ((all.0, more.0), more.1)
+-- the status tells that no number is too big
+no_number : (e : StepError) → IsIllegal (status_of_step e) → (s : ℕ) → e ≢ step.TooBig s
+no_number (step.NoReaction r) is s same = cc same
+no_number (step.NotPresent r t) is s same = cc same
+no_number (step.TooBig t) is s same = is
+no_number (step.TakesMore t) is s same = cc same
 
 segment_refused : (net : Network) (a : List ℚ) (us : List (List Flow)) (t : ℕ) (e : StepError) (text : List ℕ) → IsNetwork net → AreSegments us → IsRefused net a us t e → IsIllegal (status_of_step e)
     → text ≡ refusal (step_words t e) → RefusesSegment net a us text
 segment_refused net a us t e text ok segments first is text_is =
-    let (earlier, here) = those_before first.before first.segment first.rest (subst AreSegments first.split segments) in
+    let stops = segment_stops net ok a us t e segments first in
+    let (earlier, here) = those_before stops.before stops.segment stops.rest (subst AreSegments stops.split segments) in
     let (why, says) = told t e text is text_is in
     record {
-      before = first.before;
-      segment = first.segment;
-      rest = first.rest;
-      state = first.state;
-      split = first.split;
-      leads = (steps_run net a first.before first.state earlier first.leads).0;
-      refused = λ legal fits. let wrong : Some e ≡ None = sym first.refused ∙ legal_goes net first.state first.segment ok here legal fits in absurd (cc wrong);
+      before = stops.before;
+      segment = stops.segment;
+      rest = stops.rest;
+      state = stops.state;
+      split = stops.split;
+      leads = stops.leads;
+      illegal = illegal_cause net ok stops.state stops.segment here e stops.cause (no_number e is);
       why = why;
-      written = subst (λ n. text ≡ refusal (codes "segment " ++ (decimal n ++ why))) first.place says;
+      written = subst (λ n. text ≡ refusal (codes "segment " ++ (decimal n ++ why))) stops.place says;
     }
 
 -- no cause is told as one of a segment

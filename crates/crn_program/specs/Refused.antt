@@ -16,10 +16,9 @@ use Rattle.crn_function_text.specs.Grammar.{PlainFunction}
 use Rattle.crn_function_text.specs.Two.{TwoFunctions}
 use Rattle.crn_net.specs.Network.{Network, Run, IsLegal}
 use Rattle.crn_net.specs.declared.Flow.{Flow}
-use Rattle.crn_segments.specs.Fits.{StepFits}
 use Rattle.crn_program.specs.Report.{refusal, point_text}
 
--- those before it are a run from a, and at the state where they lead the segment is not legal or a number of its step does not fit; its number is written
+-- those before it are a run from a, and at the state where they lead the segment is not legal; its number is written
 pub record RefusesSegment (net : Network) (a : List ℚ) (segments : List (List Flow)) (text : List ℕ) : Type 0 where
   pub before : List (List Flow)
   pub segment : List Flow
@@ -27,7 +26,7 @@ pub record RefusesSegment (net : Network) (a : List ℚ) (segments : List (List 
   pub state : List ℚ
   pub split : segments ≡ before ++ segment ∷ rest
   pub leads : Run net a before state
-  pub refused : IsLegal net state segment → StepFits net state segment → ⊥
+  pub illegal : ¬ IsLegal net state segment
   pub why : List ℕ
   pub written : text ≡ refusal (codes "segment " ++ (decimal (suc (length before)) ++ why))
 

@@ -8,16 +8,16 @@ use Rattle.crn_fraction.proofs.Linear.{not_<ℚ}
 use Rattle.crn_fraction.specs.Rational.{ℚ, 0ℚ, ◌≤ℚ◌, ◌<ℚ◌}
 use Rattle.crn_net.proofs.Shape.{count_of_other, count_of_same, count_of_in_range}
 use Rattle.crn_net.specs.Causes.{IsFirst}
-use Rattle.crn_net.specs.Network.{Network, Part, AreFlows, AreParts, IsNetwork, amount, after, count_of, numbered, taken}
+use Rattle.crn_net.specs.Network.{Network, Part, AreFlows, AreParts, IsLegal, IsNetwork, amount, after, count_of, numbered, taken}
 use Rattle.crn_net.specs.Totals.{change, added}
 use Rattle.crn_net.specs.declared.Flow.{Flow}
 use Rattle.crn_segments.proofs.Least.{first_in}
 use Rattle.crn_segments.proofs.Refusals.{flow_without_reaction, flow_with_reaction}
 use Rattle.crn_segments.proofs.Runs.{sum_there}
 use Rattle.crn_segments.proofs.SignLaws.{positive_is, not_positive_is, not_negative_is, negative_is, is_positive_ℚ_cases, is_negative_ℚ_cases}
-use Rattle.crn_segments.proofs.Steps.{above_or_not, flow_none, flows_exist, map_some, none_absent, or_none, or_some, present_all, refused_flows, refused_sums, sum_fits, sum_is_after}
+use Rattle.crn_segments.proofs.Steps.{above_or_not, flow_none, flows_exist, flows_none, map_some, none_absent, or_none, or_some, present_all, refused_flows, refused_sums, sum_fits, sum_is_after}
 use Rattle.crn_segments.specs.Causes.{MayBegin, ComesTo, IsFirstAbsent, SpeciesGoes, StopsAt, IsStepCause}
-use Rattle.crn_segments.specs.Fits.{SpeciesFits, flows_with}
+use Rattle.crn_segments.specs.Fits.{SpeciesFits, StepFits, flows_with}
 use Rattle.crn_segments.specs.Flows.{IsSegment}
 use Rattle.crn_segments.specs.Progress.{Progress}
 use Rattle.crn_segments.specs.Signs.{is_positive_ℚ, is_negative_ℚ}
@@ -321,3 +321,23 @@ step_refused net ok c u seg (TakesMore s) h =
 pub shown_cause : (p : Progress) (net : Network) (c : List ℚ) → record { network = net; state = c } ≡ p → (u : List Flow) → IsNetwork net → IsSegment u → (e : StepError) → step_refusal net c u ≡ Some e →
     IsStepCause p.network p.state u e
 shown_cause p net c same u ok seg e h = subst (λ (q : Progress). IsStepCause q.network q.state u e) same (refused_step net ok c u seg e h)
+
+-- ---- what a cause says of the segment
+
+-- no flow stops a legal segment
+legal_begins : (net : Network) → IsNetwork net → (c : List ℚ) (u : List Flow) → IsSegment u → IsLegal net c u → (r : ℕ) (e : StepError) → (k : ComesTo net c u r) → FlowCause net c k.flow e → ⊥
+legal_begins net ok c u seg legal r e k cause =
+    let stops : flows_refusal net c u ≡ Some e = ap (flows_refusal net c) k.split ∙ stops_at_flow net ok c k.before k.flow k.later e k.begin cause in
+    let wrong : None ≡ Some e = sym (flows_none net ok c 0 u seg.ascending legal.flows legal.applicable) ∙ stops in
+    cc wrong
+
+-- a cause that is no number that is too big makes it illegal
+pub illegal_cause : (net : Network) → IsNetwork net → (c : List ℚ) (u : List Flow) → IsSegment u → (e : StepError) → IsStepCause net c u e → ((s : ℕ) → e ≢ TooBig s) → IsLegal net c u → ⊥
+illegal_cause net ok c u seg (NoReaction r) h other legal = legal_begins net ok c u seg legal r (NoReaction r) h.0 (h.0.number, h.1)
+illegal_cause net ok c u seg (NotPresent r s) h other legal = legal_begins net ok c u seg legal r (NotPresent r s) h.0 (h.0.number, h.1, h.2)
+illegal_cause net ok c u seg (TooBig s) h other legal = other s refl
+illegal_cause net ok c u seg (TakesMore s) h other legal = not_<ℚ 0ℚ (amount (after net c u) s) (legal.enough s) h.2
+
+-- and one that is too big leaves a number that does not fit
+pub unfit_cause : (net : Network) (c : List ℚ) (u : List Flow) (s : ℕ) → IsStepCause net c u (TooBig s) → StepFits net c u → ⊥
+unfit_cause net c u s h fits = h.1 (fits s h.0.first.low h.0.first.high)

@@ -2,7 +2,7 @@ use Rattle.std.proofs.Common.{[], ◌∷◌, ◌++◌, ◌∙◌, ap, subst, map
 use Rattle.std.specs.Option.{option_map}
 use Rattle.crn_token.specs.Plain.{plain_token}
 use Rattle.crn_formula.specs.Views.{pieces_of, piece_of}
-use Rattle.crn_form_text.specs.Reading.{form_of}
+use Rattle.crn_function_text.specs.Spelled.{form_of}
 use Rattle.crn_token.specs.Words.{rest_of}
 use Rattle.crn_grammar.specs.Reading.{judged, Gives}
 use Rattle.crn_function_text.specs.Grammar.{InPieces, new_piece, with_condition, condition_of, limit}
