@@ -1,7 +1,7 @@
 -- One line more of a function part, and a text that is a function part.
-use Rattle.std.proofs.Common.{◌≡◌, ℕ, Bool, true, false, cond, List, [], ◌∷◌, drop, map, None, refl, sym, ◌∙◌, ap, subst}
+use Rattle.std.proofs.Common.{◌≡◌, ℕ, Bool, true, false, cond, List, [], ◌∷◌, map, None, refl, sym, ◌∙◌, ap, subst}
 use Rattle.crn_token.specs.declared.Line.{Line}
-use Rattle.crn_token.specs.Plain.{PlainLine, plain_token, plain_line, plain_lines, line_number, end_of}
+use Rattle.crn_token.specs.Plain.{PlainLine, plain_token, plain_line, line_number, end_of}
 use Rattle.crn_token.specs.Words.{rest_of, says}
 use Rattle.crn_token.proofs.LineLaws.{rest_map, said_is}
 use Rattle.crn_grammar.specs.declared.error.TextError.{TextError}
@@ -13,7 +13,7 @@ use Rattle.crn_function_text.specs.declared.words.Word.{Word}
 use Rattle.crn_function_text.specs.declared.words.Word.TheVariants as word
 use Rattle.crn_function_text.specs.declared.words.Given.TheVariants as given
 use Rattle.crn_function_text.specs.Words.{first_word}
-use Rattle.crn_function_text.specs.Grammar.{PlainFunction, Place, Start, Header, Sized, Valued, InPieces, InForms, follow, allows, next, goes_on, function_table, function_part, rest_answer}
+use Rattle.crn_function_text.specs.Grammar.{PlainFunction, Place, Start, Header, Sized, Valued, InPieces, InForms, follow, allows, next, goes_on, function_table, part_of_lines, lines_answer}
 use Rattle.crn_function_text.proofs.GrammarLaws.{not_followed}
 
 -- ---- the tokens of a line
@@ -55,16 +55,15 @@ never_next : (s : Place) (line : PlainLine) → goes_on s line ≡ false → nex
 never_next s line off = not_followed s (first_word (says line)) (rest_of (says line)) off
 
 -- the answer to lines that are a text, by its function part
-text_answer : (bytes : List ℕ) (from : ℕ) → rest_answer bytes from ≡ whole_answer line_number (function_part bytes from)
-text_answer bytes from = text_is_part function_table goes_on line_number (end_of bytes) never_next Start (drop from (plain_lines bytes))
+text_answer : (bytes : List ℕ) (lines : List PlainLine) → lines_answer bytes lines ≡ whole_answer line_number (part_of_lines bytes lines)
+text_answer bytes lines = text_is_part function_table goes_on line_number (end_of bytes) never_next Start lines
 
-pub text_read : (bytes : List ℕ) (from : ℕ) (f : PlainFunction) (n : ℕ) → function_part bytes from ≡ Ends f (drop n (plain_lines bytes)) → drop n (plain_lines bytes) ≡ []
-    → rest_answer bytes from ≡ Read f
-text_read bytes from f n is none = text_answer bytes from ∙ ap (whole_answer line_number) (is ∙ ap (Ends f) none)
+pub text_read : (bytes : List ℕ) (lines left : List PlainLine) (f : PlainFunction) → part_of_lines bytes lines ≡ Ends f left → left ≡ [] → lines_answer bytes lines ≡ Read f
+text_read bytes lines left f is none = text_answer bytes lines ∙ ap (whole_answer line_number) (is ∙ ap (Ends f) none)
 
-pub text_goes_on : (bytes : List ℕ) (from : ℕ) (f : PlainFunction) (n : ℕ) (line : PlainLine) (rest : List PlainLine) → function_part bytes from ≡ Ends f (drop n (plain_lines bytes))
-    → drop n (plain_lines bytes) ≡ line ∷ rest → rest_answer bytes from ≡ Malformed line.number
-text_goes_on bytes from f n line rest is more = text_answer bytes from ∙ ap (whole_answer line_number) (is ∙ ap (Ends f) more)
+pub text_goes_on : (bytes : List ℕ) (lines left : List PlainLine) (f : PlainFunction) (line : PlainLine) (rest : List PlainLine) → part_of_lines bytes lines ≡ Ends f left → left ≡ line ∷ rest
+    → lines_answer bytes lines ≡ Malformed line.number
+text_goes_on bytes lines left f line rest is more = text_answer bytes lines ∙ ap (whole_answer line_number) (is ∙ ap (Ends f) more)
 
-pub text_refused : (bytes : List ℕ) (from : ℕ) (e : TextError) → RefusesPart e (function_part bytes from) → Refuses e (rest_answer bytes from)
-text_refused bytes from e is = subst (Refuses e) (sym (text_answer bytes from)) (whole_refused line_number e (function_part bytes from) is)
+pub text_refused : (bytes : List ℕ) (lines : List PlainLine) (e : TextError) → RefusesPart e (part_of_lines bytes lines) → Refuses e (lines_answer bytes lines)
+text_refused bytes lines e is = subst (Refuses e) (sym (text_answer bytes lines)) (whole_refused line_number e (part_of_lines bytes lines) is)

@@ -1,9 +1,8 @@
 -- The answer to a text of two functions by the answers to its parts, that each place of it can end, and that both functions are within their limits.
-use Rattle.std.proofs.Common.{◌≡◌, ℕ, true, false, List, [], ◌∷◌, drop, Option, Some, None, refl, sym, ◌∙◌, ap, subst, ⊎_elim}
+use Rattle.std.proofs.Common.{◌≡◌, ℕ, true, false, List, [], ◌∷◌, Option, Some, None, refl, sym, ◌∙◌, ap, subst, ⊎_elim}
 use Rattle.std.proofs.lemmas.Bool.{cases_Bool}
-use Rattle.std.specs.Prelude.{codes}
 use Rattle.std.specs.Option.{option_and_then}
-use Rattle.crn_token.specs.Plain.{PlainLine, PlainWord, plain_lines, line_number, end_of}
+use Rattle.crn_token.specs.Plain.{PlainLine, plain_lines, line_number, end_of}
 use Rattle.crn_token.specs.Words.{says, rest_of}
 use Rattle.crn_grammar.specs.declared.error.TextError.{TextError}
 use Rattle.crn_grammar.specs.Table.{IsText, PassesNone, after, CanEnd}
@@ -16,7 +15,7 @@ use Rattle.crn_formula.specs.Functions.{IsFitting}
 use Rattle.crn_function_text.specs.declared.words.Word.{Word}
 use Rattle.crn_function_text.specs.declared.words.Word.TheVariants as word
 use Rattle.crn_function_text.specs.Words.{first_word}
-use Rattle.crn_function_text.specs.Grammar.{PlainFunction, Place, Start, Header, Sized, Valued, InPieces, InForms, function_table, goes_on, function_part, rest_answer, next, allows, whole}
+use Rattle.crn_function_text.specs.Grammar.{PlainFunction, Place, Start, Header, Sized, Valued, InPieces, InForms, function_table, goes_on, part_of_lines, lines_answer, next, allows, whole}
 use Rattle.crn_function_text.specs.Reading.{IsKept}
 use Rattle.crn_function_text.specs.Two.{TwoFunctions, two, two_table, two_answer}
 use Rattle.crn_function_text.proofs.GrammarLaws.{not_followed, ends, function_can_end}
@@ -26,15 +25,17 @@ use Rattle.crn_function_text.proofs.Kept.{kept_next, whole_fits}
 -- ---- the answer
 
 -- the answer to two functions, by that to the first part
-two_is : (bytes : List ℕ) → two_answer bytes ≡ followed_on function_table goes_on (λ first. function_table) two line_number (end_of bytes) (function_part bytes 0)
-two_is bytes = followed_is function_table goes_on (λ first. function_table) two line_number (end_of bytes) Start (plain_lines bytes)
+two_is : (bytes : List ℕ) (lines : List PlainLine) → lines ≡ plain_lines bytes → two_answer bytes ≡ followed_on function_table goes_on (λ first. function_table) two line_number (end_of bytes) (part_of_lines bytes lines)
+two_is bytes lines is =
+    followed_is function_table goes_on (λ first. function_table) two line_number (end_of bytes) Start (plain_lines bytes)
+    ∙ ap (λ ls. followed_on function_table goes_on (λ first. function_table) two line_number (end_of bytes) (part_of_lines bytes ls)) (sym is)
 
-pub two_read : (bytes : List ℕ) (f : PlainFunction) (n : ℕ) → function_part bytes 0 ≡ Ends f (drop n (plain_lines bytes)) → two_answer bytes ≡ answer_map (two f) (rest_answer bytes n)
-two_read bytes f n is = two_is bytes ∙ ap (followed_on function_table goes_on (λ first. function_table) two line_number (end_of bytes)) is
+pub two_read : (bytes : List ℕ) (lines left : List PlainLine) (f : PlainFunction) → lines ≡ plain_lines bytes → part_of_lines bytes lines ≡ Ends f left → two_answer bytes ≡ answer_map (two f) (lines_answer bytes left)
+two_read bytes lines left f whole is = two_is bytes lines whole ∙ ap (followed_on function_table goes_on (λ first. function_table) two line_number (end_of bytes)) is
 
-pub two_refused : (bytes : List ℕ) (e : TextError) → RefusesPart e (function_part bytes 0) → Refuses e (two_answer bytes)
-two_refused bytes e is =
-    subst (Refuses e) (sym (two_is bytes)) (followed_refused function_table goes_on (λ first. function_table) two line_number (end_of bytes) e (function_part bytes 0) is)
+pub two_refused : (bytes : List ℕ) (lines : List PlainLine) (e : TextError) → lines ≡ plain_lines bytes → RefusesPart e (part_of_lines bytes lines) → Refuses e (two_answer bytes)
+two_refused bytes lines e whole is =
+    subst (Refuses e) (sym (two_is bytes lines whole)) (followed_refused function_table goes_on (λ first. function_table) two line_number (end_of bytes) e (part_of_lines bytes lines) is)
 
 -- ---- each place can end
 

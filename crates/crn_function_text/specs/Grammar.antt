@@ -159,13 +159,16 @@ function_table = record { start = Start; next = next; whole = whole; limit = lim
 
 -- ---- texts
 
--- the answer to the lines from a line on that is counted from 0, and to a text
-abbrev pub rest_answer : List ℕ → ℕ → Answer PlainFunction (Counted × ℕ)
-rest_answer bytes from = answer function_table line_number (end_of bytes) Start (drop from (plain_lines bytes))
+-- the answer to lines of a text, and to a text
+abbrev pub lines_answer : List ℕ → List PlainLine → Answer PlainFunction (Counted × ℕ)
+lines_answer bytes lines = answer function_table line_number (end_of bytes) Start lines
 
 abbrev pub function_answer : List ℕ → Answer PlainFunction (Counted × ℕ)
-function_answer bytes = answer function_table line_number (end_of bytes) Start (plain_lines bytes)
+function_answer bytes = lines_answer bytes (plain_lines bytes)
 
--- the answer to the function part that begins at a line, counted from 0
+-- the answer to the function part that lines of a text begin with, and to the one that begins at a line, counted from 0
+abbrev pub part_of_lines : List ℕ → List PlainLine → PartAnswer PlainLine PlainFunction (Counted × ℕ)
+part_of_lines bytes lines = part_answer function_table goes_on line_number (end_of bytes) Start lines
+
 abbrev pub function_part : List ℕ → ℕ → PartAnswer PlainLine PlainFunction (Counted × ℕ)
-function_part bytes from = part_answer function_table goes_on line_number (end_of bytes) Start (drop from (plain_lines bytes))
+function_part bytes from = part_of_lines bytes (drop from (plain_lines bytes))

@@ -4,24 +4,24 @@
 //! limit; the same of two functions one after the other (`specs/Two.antt`). A printed function reads back as itself.
 #![tactic(auto)]
 
-ghost use Rattle.std.specs.Prelude.{◌≡◌, ◌≤◌, List, drop, vec_len, IfOk};
+ghost use Rattle.std.specs.Prelude.{◌≡◌, ◌≤◌, List, drop, length, vec_len, IfOk};
 ghost use Rattle.crn_token.specs.Lines.{AreLinesOf};
 ghost use Rattle.crn_token.specs.Plain.{PlainLine, plain_lines, line_number, end_of};
 ghost use Rattle.crn_grammar.specs.Table.{IsText, PassesNone, IsAnswer};
 ghost use Rattle.crn_grammar.specs.Table as table;
-ghost use Rattle.crn_grammar.specs.Part.{IsPart, IsPartAnswer, Ends, part_end};
-ghost use Rattle.crn_grammar.specs.Reading.{Gives, GivesPart, IsRight, IsRightPart};
+ghost use Rattle.crn_grammar.specs.Part.{IsPart, IsPartAnswer, Ends};
+ghost use Rattle.crn_grammar.specs.Reading.{Gives, GivesPart, GivesUpTo, IsRight, IsRightPart, IsRightUpTo};
 ghost use Rattle.crn_formula.specs.Domains.{domain_for};
 ghost use Rattle.crn_formula.specs.Views.{kind_of};
-ghost use Rattle.crn_function_text.specs.Grammar.{PlainFunction, function_table, goes_on, function_part, function_answer, rest_answer};
-ghost use Rattle.crn_function_text.specs.Reading.{shown, function_of, IsKept};
+ghost use Rattle.crn_function_text.specs.Grammar.{PlainFunction, function_table, goes_on, function_part, function_answer, lines_answer, part_of_lines};
+ghost use Rattle.crn_function_text.specs.Reading.{function_of};
 ghost use Rattle.crn_function_text.specs.Two.{TwoFunctions, two_table, two_answer, two_of};
 
 pub use crn_form_text::read_plain_form;
 use crn_formula::Function;
 use crn_grammar::TextError;
 use crn_token::words::tokens_of;
-use crn_token::{Lines, token_lines};
+use crn_token::{LineSource, Lines, LinesFrom, TextLines};
 use place::Place;
 use std::alloc::Global;
 use words::first_word;
@@ -56,11 +56,11 @@ pub fn read_function_lines(
     ensures next { IfOk result (λ r. (from ≤ r.1) × (r.1 ≤ vec_len lines.now.lines)) }
     ensures domain { IfOk result (λ r. r.0.domain ≡ domain_for r.0.variables (kind_of r.0.kind)) }
 {
-    read_part(alloc, bytes, lines, from)
+    read_from(alloc, bytes, lines, from)
 }
 
-// The function part, line by line.
-fn read_part(
+// The same, line by line.
+fn read_from(
     alloc: Global,
     bytes: &[u8],
     lines: &Lines,
@@ -72,31 +72,53 @@ fn read_part(
     ensures next { IfOk result (λ r. (from ≤ r.1) × (r.1 ≤ vec_len lines.now.lines)) }
     ensures domain { IfOk result (λ r. r.0.domain ≡ domain_for r.0.variables (kind_of r.0.kind)) }
 {
-    let mut place = Place::Start;
-    for index in from..lines.lines.len() {
-        let line = &lines.lines[index];
-        let word = first_word(bytes, tokens_of(line));
-        if !place.allows(word) {
-            return part_up_to(place, line.number, index);
-        }
-        place = place.after(alloc, bytes, line, word)?;
-    }
-    part_up_to(place, lines.count + 1, lines.lines.len())
+    let mut source = LinesFrom::new(bytes, lines, from);
+    let function = read_part(alloc, bytes, &mut source)?;
+    Ok((function, source.index()))
 }
 
-// The function of a part that ends before the line with this number, which has this index.
-fn part_up_to(
-    place: Place,
-    number: usize,
-    index: usize,
-) -> Result<(Function, usize), FunctionTextError>
-    requires { IsKept (shown place) }
-    ensures answer { (lines : List PlainLine) → GivesPart function_of lines result (part_end function_table number (shown place) (drop index lines)) }
-    ensures next { IfOk result (λ r. r.1 ≡ index) }
-    ensures domain { IfOk result (λ r. r.0.domain ≡ domain_for r.0.variables (kind_of r.0.kind)) }
+/// The function part that begins at the line that stands next: it ends at the first line that does not begin with a word that may follow, and that line stands next then.
+pub fn read_function_part<S: LineSource>(
+    alloc: Global,
+    bytes: &[u8],
+    source: &mut S,
+) -> Result<Function, FunctionTextError>
+    requires text { S.text source.old ≡ bytes.now }
+    ensures answer { GivesUpTo function_of (S.left source.new) result (part_of_lines bytes.now (S.left source.old)) }
+    // Each answer is the right one: the function of the part, the malformed line, or the first limit that is passed.
+    ensures part { IsRightUpTo function_of (S.left source.new) result (IsPartAnswer function_table goes_on line_number (end_of bytes.now) (S.left source.old)) }
+    // A part that passes no limit is read.
+    ensures read { (f : PlainFunction) (rest : List PlainLine) → IsPart function_table goes_on (S.left source.old) f rest
+        → GivesUpTo function_of (S.left source.new) result (Ends f rest) }
+    ensures same_text { S.text source.new ≡ S.text source.old }
+    ensures later { IfOk result (λ _. length (S.left source.new) ≤ length (S.left source.old)) }
+    ensures domain { IfOk result (λ f. f.domain ≡ domain_for f.variables (kind_of f.kind)) }
 {
-    let function = place.function(number)?;
-    Ok((function, index))
+    read_part(alloc, bytes, source)
+}
+
+// The function part, line by line.
+fn read_part<S: LineSource>(
+    alloc: Global,
+    bytes: &[u8],
+    source: &mut S,
+) -> Result<Function, FunctionTextError>
+    requires text { S.text source.old ≡ bytes.now }
+    ensures answer { GivesUpTo function_of (S.left source.new) result (part_of_lines bytes.now (S.left source.old)) }
+    ensures same_text { S.text source.new ≡ S.text source.old }
+    ensures later { IfOk result (λ _. length (S.left source.new) ≤ length (S.left source.old)) }
+    ensures domain { IfOk result (λ f. f.domain ≡ domain_for f.variables (kind_of f.kind)) }
+{
+    let mut place = Place::Start;
+    'lines: while let Some(line) = source.line() {
+        let word = first_word(bytes, tokens_of(line));
+        if !place.allows(word) {
+            return place.function(line.number);
+        }
+        place = place.after(alloc, bytes, line, word)?;
+        source.advance()?;
+    }
+    place.function(source.end())
 }
 
 /// The function of a text.
@@ -116,28 +138,25 @@ fn read_text(alloc: Global, bytes: &[u8]) -> Result<Function, FunctionTextError>
     ensures answer { Gives function_of result (function_answer bytes.now) }
     ensures domain { IfOk result (λ f. f.domain ≡ domain_for f.variables (kind_of f.kind)) }
 {
-    let lines = token_lines(alloc, bytes)?;
-    read_rest(alloc, bytes, &lines, 0)
+    let mut source = TextLines::new(alloc, bytes)?;
+    read_rest(alloc, bytes, &mut source)
 }
 
-// The function of the lines from the one with this index to the end.
-fn read_rest(
+// The function of all lines that are left.
+fn read_rest<S: LineSource>(
     alloc: Global,
     bytes: &[u8],
-    lines: &Lines,
-    from: usize,
+    source: &mut S,
 ) -> Result<Function, FunctionTextError>
-    requires lines { AreLinesOf bytes.now lines.now }
-    requires from { from ≤ vec_len lines.now.lines }
-    ensures answer { Gives function_of result (rest_answer bytes.now from) }
+    requires text { S.text source.old ≡ bytes.now }
+    ensures answer { Gives function_of result (lines_answer bytes.now (S.left source.old)) }
     ensures domain { IfOk result (λ f. f.domain ≡ domain_for f.variables (kind_of f.kind)) }
 {
-    let (function, next) = read_function_lines(alloc, bytes, lines, from)?;
-    if next < lines.lines.len() {
-        let line = lines.lines[next].number;
-        return Err(FunctionTextError::Malformed { line });
+    let function = read_part(alloc, bytes, source)?;
+    match source.line() {
+        Some(line) => Err(FunctionTextError::Malformed { line: line.number }),
+        None => Ok(function),
     }
-    Ok(function)
 }
 
 /// The two functions of a text, of which the second follows the first.
@@ -162,8 +181,8 @@ fn read_two(alloc: Global, bytes: &[u8]) -> Result<(Function, Function), Functio
     ensures first_domain { IfOk result (λ r. r.0.domain ≡ domain_for r.0.variables (kind_of r.0.kind)) }
     ensures second_domain { IfOk result (λ r. r.1.domain ≡ domain_for r.1.variables (kind_of r.1.kind)) }
 {
-    let lines = token_lines(alloc, bytes)?;
-    let (first, next) = read_function_lines(alloc, bytes, &lines, 0)?;
-    let second = read_rest(alloc, bytes, &lines, next)?;
+    let mut source = TextLines::new(alloc, bytes)?;
+    let first = read_part(alloc, bytes, &mut source)?;
+    let second = read_rest(alloc, bytes, &mut source)?;
     Ok((first, second))
 }

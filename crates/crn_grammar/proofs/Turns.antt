@@ -12,7 +12,7 @@ use Rattle.crn_grammar.specs.declared.error.TextError.{TextError}
 use Rattle.crn_grammar.specs.declared.error.TextError.TheVariants as error
 use Rattle.crn_grammar.specs.Table.{Table, Answer, Read, Malformed, Limited, answer}
 use Rattle.crn_grammar.specs.Part.{PartAnswer, Ends, Wrong, Past, part_end, part_answer}
-use Rattle.crn_grammar.specs.Reading.{judged, Refuses, Gives, IsRight, RefusesPart, GivesPart, IsRightPart}
+use Rattle.crn_grammar.specs.Reading.{judged, Refuses, Gives, IsRight, RefusesPart, GivesPart, IsRightPart, GivesUpTo, IsRightUpTo}
 use Rattle.crn_grammar.proofs.RightParts.{goes_is, stops_is}
 
 -- ---- the answer to one line more
@@ -60,6 +60,11 @@ pub part_passed_on : {L X Y : Type 0} (view : X → Y) (lines : List L) (r : Res
 part_passed_on view lines (Ok x) e part is refuses = absurd is
 part_passed_on view lines (Err f) e part is refuses = subst (λ g. RefusesPart g part) (sym is) refuses
 
+pub up_to_passed_on : {L X Y : Type 0} (view : X → Y) (left : List L) (r : Result X TextError) (e : TextError) (part : PartAnswer L Y (Counted × ℕ)) → IsErrAnd r (λ f. f ≡ e) → RefusesPart e part
+    → GivesUpTo view left r part
+up_to_passed_on view left (Ok x) e part is refuses = absurd is
+up_to_passed_on view left (Err f) e part is refuses = subst (λ g. RefusesPart g part) (sym is) refuses
+
 -- ---- a call gives what is right where it gives the answer
 pub right_given : {X Y : Type 0} (view : X → Y) (Right : Answer Y (Counted × ℕ) → Type 0) (r : Result X TextError) (a : Answer Y (Counted × ℕ)) → Gives view r a → Right a → IsRight view r Right
 right_given view Right (Ok x) a gives is = subst Right gives is
@@ -74,16 +79,23 @@ right_part_given view lines Right (Err (error.Malformed n)) a gives is = subst R
 right_part_given view lines Right (Err (error.Limit what count)) a gives is = subst Right gives is
 right_part_given view lines Right (Err error.Memory) a gives is = tt
 
+pub right_up_to_given : {L X Y : Type 0} (view : X → Y) (left : List L) (Right : PartAnswer L Y (Counted × ℕ) → Type 0) (r : Result X TextError) (a : PartAnswer L Y (Counted × ℕ))
+    → GivesUpTo view left r a → Right a → IsRightUpTo view left r Right
+right_up_to_given view left Right (Ok x) a gives is = subst Right gives is
+right_up_to_given view left Right (Err (error.Malformed n)) a gives is = subst Right gives is
+right_up_to_given view left Right (Err (error.Limit what count)) a gives is = subst Right gives is
+right_up_to_given view left Right (Err error.Memory) a gives is = tt
+
 -- ---- lines of a text
 module _ {S F : Type 0} (table : Table S PlainLine F (Counted × ℕ)) (bytes : List ℕ) where
   abbrev pub told : S → List PlainLine → Answer F (Counted × ℕ)
   told t lines = answer table line_number (end_of bytes) t lines
 
   -- the line leads on
-  pub turn_read : (all : Answer F (Counted × ℕ)) (i : ℕ) (line : Line) (rest : List PlainLine) (t u : S) (next : Option S) → drop i (plain_lines bytes) ≡ plain_line bytes line ∷ rest
-      → told t (drop i (plain_lines bytes)) ≡ all → next ≡ table.next t (plain_line bytes line) → judged table.limit line.number next ≡ Read u
+  pub turn_read : (all : Answer F (Counted × ℕ)) (lines : List PlainLine) (line : Line) (rest : List PlainLine) (t u : S) (next : Option S) → lines ≡ plain_line bytes line ∷ rest
+      → told t lines ≡ all → next ≡ table.next t (plain_line bytes line) → judged table.limit line.number next ≡ Read u
       → told u rest ≡ all
-  turn_read all i line rest t u next here before next_is is =
+  turn_read all lines line rest t u next here before next_is is =
       let (some, low) = judged_read table.limit line.number next u is in
       let led : table.next t (plain_line bytes line) ≡ Some u = sym next_is ∙ some in
       let step : told t (plain_line bytes line ∷ rest) ≡ told u rest = rw (led, low) refl in
@@ -97,18 +109,18 @@ module _ {S F : Type 0} (table : Table S PlainLine F (Counted × ℕ)) (bytes : 
       rw (some, past) refl
   step_refused line rest t error.Memory is = tt
 
-  pub turn_refused : (all : Answer F (Counted × ℕ)) (i : ℕ) (line : Line) (rest : List PlainLine) (t : S) (e : TextError) (next : Option S) → drop i (plain_lines bytes) ≡ plain_line bytes line ∷ rest
-      → told t (drop i (plain_lines bytes)) ≡ all → next ≡ table.next t (plain_line bytes line) → Refuses e (judged table.limit line.number next)
+  pub turn_refused : (all : Answer F (Counted × ℕ)) (lines : List PlainLine) (line : Line) (rest : List PlainLine) (t : S) (e : TextError) (next : Option S) → lines ≡ plain_line bytes line ∷ rest
+      → told t lines ≡ all → next ≡ table.next t (plain_line bytes line) → Refuses e (judged table.limit line.number next)
       → Refuses e all
-  turn_refused all i line rest t e next here before next_is is =
+  turn_refused all lines line rest t e next here before next_is is =
       subst (Refuses e) (ap (told t) (sym here) ∙ before)
       (step_refused (plain_line bytes line) rest t e (subst (λ o. Refuses e (judged table.limit line.number o)) next_is is))
 
   -- no line is left
-  pub turn_ends : (all : Answer F (Counted × ℕ)) (i count : ℕ) (t : S) → drop i (plain_lines bytes) ≡ [] → count + 1 ≡ end_of bytes
-      → told t (drop i (plain_lines bytes)) ≡ all
+  pub turn_ends : (all : Answer F (Counted × ℕ)) (lines : List PlainLine) (count : ℕ) (t : S) → lines ≡ [] → count + 1 ≡ end_of bytes
+      → told t lines ≡ all
       → option_map_or (λ v. Read v) (table.whole t) (Malformed (count + 1)) ≡ all
-  turn_ends all i count t none end_is before =
+  turn_ends all lines count t none end_is before =
       ap (λ n. option_map_or (λ v. Read v) (table.whole t) (Malformed n)) end_is ∙ ap (told t) (sym none) ∙ before
 
 -- ---- lines of a part
@@ -117,10 +129,10 @@ module _ {S F : Type 0} (table : Table S PlainLine F (Counted × ℕ)) (goes_on 
   part_told s lines = part_answer table goes_on line_number (end_of bytes) s lines
 
   -- the line leads on
-  pub part_read : (all : PartAnswer PlainLine F (Counted × ℕ)) (i : ℕ) (line : Line) (rest : List PlainLine) (s t : S) (next : Option S) → drop i (plain_lines bytes) ≡ plain_line bytes line ∷ rest
-      → part_told s (drop i (plain_lines bytes)) ≡ all → goes_on s (plain_line bytes line) ≡ true → next ≡ table.next s (plain_line bytes line) → judged table.limit line.number next ≡ Read t
+  pub part_read : (all : PartAnswer PlainLine F (Counted × ℕ)) (lines : List PlainLine) (line : Line) (rest : List PlainLine) (s t : S) (next : Option S) → lines ≡ plain_line bytes line ∷ rest
+      → part_told s lines ≡ all → goes_on s (plain_line bytes line) ≡ true → next ≡ table.next s (plain_line bytes line) → judged table.limit line.number next ≡ Read t
       → part_told t rest ≡ all
-  part_read all i line rest s t next here before on next_is is =
+  part_read all lines line rest s t next here before on next_is is =
       let (some, low) = judged_read table.limit line.number next t is in
       let led : table.next s (plain_line bytes line) ≡ Some t = sym next_is ∙ some in
       let step : part_told s (plain_line bytes line ∷ rest) ≡ part_told t rest = goes_is table goes_on line_number (end_of bytes) s (plain_line bytes line) rest on ∙ rw (led, low) refl in
@@ -136,22 +148,26 @@ module _ {S F : Type 0} (table : Table S PlainLine F (Counted × ℕ)) (goes_on 
       goes_is table goes_on line_number (end_of bytes) s line rest on ∙ rw (some, past) refl
   part_step_refused line rest s error.Memory on is = tt
 
-  pub part_refused : (all : PartAnswer PlainLine F (Counted × ℕ)) (i : ℕ) (line : Line) (rest : List PlainLine) (s : S) (e : TextError) (next : Option S) → drop i (plain_lines bytes) ≡ plain_line bytes line ∷ rest
-      → part_told s (drop i (plain_lines bytes)) ≡ all → goes_on s (plain_line bytes line) ≡ true → next ≡ table.next s (plain_line bytes line) → Refuses e (judged table.limit line.number next)
+  pub part_refused : (all : PartAnswer PlainLine F (Counted × ℕ)) (lines : List PlainLine) (line : Line) (rest : List PlainLine) (s : S) (e : TextError) (next : Option S) → lines ≡ plain_line bytes line ∷ rest
+      → part_told s lines ≡ all → goes_on s (plain_line bytes line) ≡ true → next ≡ table.next s (plain_line bytes line) → Refuses e (judged table.limit line.number next)
       → RefusesPart e all
-  part_refused all i line rest s e next here before on next_is is =
+  part_refused all lines line rest s e next here before on next_is is =
       subst (RefusesPart e) (ap (part_told s) (sym here) ∙ before)
       (part_step_refused (plain_line bytes line) rest s e on (subst (λ o. Refuses e (judged table.limit line.number o)) next_is is))
 
   -- the part ends before the line
-  pub part_stops : (all : PartAnswer PlainLine F (Counted × ℕ)) (i : ℕ) (line : Line) (rest : List PlainLine) (s : S) → drop i (plain_lines bytes) ≡ plain_line bytes line ∷ rest
-      → part_told s (drop i (plain_lines bytes)) ≡ all → goes_on s (plain_line bytes line) ≡ false
-      → part_end table line.number s (drop i (plain_lines bytes)) ≡ all
-  part_stops all i line rest s here before off =
+  pub part_stops : (all : PartAnswer PlainLine F (Counted × ℕ)) (lines : List PlainLine) (line : Line) (rest : List PlainLine) (s : S) → lines ≡ plain_line bytes line ∷ rest
+      → part_told s lines ≡ all → goes_on s (plain_line bytes line) ≡ false
+      → part_end table line.number s lines ≡ all
+  part_stops all lines line rest s here before off =
       ap (part_end table line.number s) here ∙ sym (stops_is table goes_on line_number (end_of bytes) s (plain_line bytes line) rest off)
       ∙ ap (part_told s) (sym here) ∙ before
 
   -- no line is left
+  pub part_stops_at_end : (all : PartAnswer PlainLine F (Counted × ℕ)) (lines : List PlainLine) (n : ℕ) (s : S) → lines ≡ [] → n ≡ end_of bytes → part_told s lines ≡ all
+      → part_end table n s lines ≡ all
+  part_stops_at_end all lines n s none n_is before = ap₂ (λ m rest. part_end table m s rest) n_is none ∙ ap (part_told s) (sym none) ∙ before
+
   pub part_ends : (all : PartAnswer PlainLine F (Counted × ℕ)) (lines : Lines) (i : ℕ) (s : S) → AreLinesOf bytes lines → length lines.lines.items ≤ i
       → part_told s (drop i (plain_lines bytes)) ≡ all
       → part_end table (lines.count + 1) s (drop (length lines.lines.items) (plain_lines bytes)) ≡ all
@@ -187,6 +203,13 @@ module _ {L X F : Type 0} (view : X → F) (lines : List L) (index n : ℕ) (o :
   end_refused (error.Malformed m) is = end_wrong (drop index lines) n o m is
   end_refused (error.Limit what count) is = end_past (drop index lines) n o (what, count) is
   end_refused error.Memory is = tt
+
+-- where the call that ends a part gives its value
+pub end_up_to : {L X F : Type 0} (view : X → F) (rest : List L) (n : ℕ) (o : Option F) (r : Result X TextError) → Gives view r (ending rest n o) → GivesUpTo view rest r (part_ending rest n o)
+end_up_to view rest n o (Ok x) is = end_read rest n o (view x) is
+end_up_to view rest n o (Err (error.Malformed m)) is = end_wrong rest n o m is
+end_up_to view rest n o (Err (error.Limit what count)) is = end_past rest n o (what, count) is
+end_up_to view rest n o (Err error.Memory) is = tt
 
 -- ---- a text is a part with nothing after it
 abbrev pub whole_answer : {L F W : Type 0} → (L → ℕ) → PartAnswer L F W → Answer F W

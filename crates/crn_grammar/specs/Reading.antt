@@ -47,3 +47,15 @@ IsRightPart view lines (Ok (x, next)) Right = Right (Ends (view x) (drop next li
 IsRightPart view lines (Err (error.Malformed n)) Right = Right (Wrong n)
 IsRightPart view lines (Err (error.Limit what count)) Right = Right (Past (what, count))
 IsRightPart view lines (Err error.Memory) Right = Unit {0}
+
+-- a call gives this answer to a part, and these lines are left after it
+abbrev pub GivesUpTo : {L X Y : Type 0} → (X → Y) → List L → Result X TextError → PartAnswer L Y (Counted × ℕ) → Type 0
+GivesUpTo view left (Ok x) part = part ≡ Ends (view x) left
+GivesUpTo view left (Err e) part = RefusesPart e part
+
+-- a call gives what is right for a part, and these lines are left after it, or there was no memory
+abbrev pub IsRightUpTo : {L X Y : Type 0} → (X → Y) → List L → Result X TextError → (PartAnswer L Y (Counted × ℕ) → Type 0) → Type 0
+IsRightUpTo view left (Ok x) Right = Right (Ends (view x) left)
+IsRightUpTo view left (Err (error.Malformed n)) Right = Right (Wrong n)
+IsRightUpTo view left (Err (error.Limit what count)) Right = Right (Past (what, count))
+IsRightUpTo view left (Err error.Memory) Right = Unit {0}

@@ -34,6 +34,7 @@ pub trait LineSource {
 }
 
 /// The lines of a text that are in memory, from one on.
+#[derive(Drop)]
 pub struct LinesFrom<'a> {
     bytes: &'a [u8],
     lines: &'a Lines,

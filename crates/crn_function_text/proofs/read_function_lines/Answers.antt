@@ -14,10 +14,10 @@ returns-clause-part c =
     let lines = plain_lines c.args.bytes.now in
     let end = end_of c.args.bytes.now in
     let from = drop c.args.from lines in
-    right_part_given function_of lines (IsPartAnswer function_table goes_on line_number end from) c.read_part.result (function_part c.args.bytes.now c.args.from) c.read_part.ensures.answer
+    right_part_given function_of lines (IsPartAnswer function_table goes_on line_number end from) c.read_from.result (function_part c.args.bytes.now c.args.from) c.read_from.ensures.answer
     (part_answer_is function_table goes_on line_number end function_can_end from)
 
 pub returns-clause-read : goal.returns-clause-read
 returns-clause-read c f rest is =
     let lines = plain_lines c.args.bytes.now in
-    subst (GivesPart function_of lines c.read_part.result) (part_is function_table goes_on line_number (end_of c.args.bytes.now) (drop c.args.from lines) f rest is) c.read_part.ensures.answer
+    subst (GivesPart function_of lines c.read_from.result) (part_is function_table goes_on line_number (end_of c.args.bytes.now) (drop c.args.from lines) f rest is) c.read_from.ensures.answer

@@ -33,7 +33,7 @@ returns-in_err-tail-2-clause-answer c =
     let next = run_line_next bytes line c.tokens_of-tokens.result.now c.rest_of.result.now t c.first_word-word.result c.tokens_of-tokens.ensures c.first_word-word.ensures c.rest_of.ensures in
     let e = c.in_err-tail-2.field-0.0 in
     passed_on run_value_of c.from_residual-in_err-tail-2.result e (run_tail_answer c.args.species bytes c.args.from) c.from_residual-in_err-tail-2.ensures.1
-    (turn_refused (run_tail_table c.args.species) bytes (run_tail_answer c.args.species bytes c.args.from) c.loop-index.index line (drop (c.loop-index.index + 1) (plain_lines bytes)) t e
+    (turn_refused (run_tail_table c.args.species) bytes (run_tail_answer c.args.species bytes c.args.from) (drop c.loop-index.index (plain_lines bytes)) line (drop (c.loop-index.index + 1) (plain_lines bytes)) t e
     (run_follow t t.segments c.first_word-word.result (map (plain_token bytes) c.rest_of.result.now)) here told next (c.in_err-tail-2.ensures t shows))
 
 pub loop-index-preserved : goal.loop-index-preserved
@@ -49,7 +49,7 @@ loop-index-preserved c =
       u,
       shown,
       run_kept c.args.species line.number t u c.first_word-word.result ts kept is,
-      turn_read (run_tail_table c.args.species) bytes (run_tail_answer c.args.species bytes c.args.from) c.loop-index.index line (drop (c.loop-index.index + 1) (plain_lines bytes)) t u
+      turn_read (run_tail_table c.args.species) bytes (run_tail_answer c.args.species bytes c.args.from) (drop c.loop-index.index (plain_lines bytes)) line (drop (c.loop-index.index + 1) (plain_lines bytes)) t u
           (run_follow t t.segments c.first_word-word.result ts) here told next is,
     )
 
@@ -57,7 +57,7 @@ pub returns-clause-answer : goal.returns-clause-answer
 returns-clause-answer c =
     let (t, shows, kept, told) = c.loop-index.invariant in
     let past : length c.args.lines.now.lines.items ≤ c.loop-index.index = omega (arith, c.args.lines.now.lines.ok.0) in
-    sym (turn_ends (run_tail_table c.args.species) c.args.bytes.now (run_tail_answer c.args.species c.args.bytes.now c.args.from) c.loop-index.index c.args.lines.now.count t
+    sym (turn_ends (run_tail_table c.args.species) c.args.bytes.now (run_tail_answer c.args.species c.args.bytes.now c.args.from) (drop c.loop-index.index (plain_lines c.args.bytes.now)) c.args.lines.now.count t
     (past_lines c.args.bytes.now c.args.lines.now c.loop-index.index c.requires.lines past)
     (ap (λ n. n + 1) (count_is c.args.bytes.now c.args.lines.now c.requires.lines)) told)
     ∙ ap Read (sym (c.value.ensures ∙ value_shown c.loop-index.tail t shows))

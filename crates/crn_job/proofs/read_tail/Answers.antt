@@ -18,7 +18,7 @@ returns-in_err-tail-clause-answer c =
     let next = line_next bytes line c.tokens_of-tokens.result.now c.rest_of.result.now t c.first_word-word.result c.tokens_of-tokens.ensures (c.first_word-word.ensures) c.rest_of.ensures in
     let e = c.in_err-tail.field-0.0 in
     passed_on value_of c.from_residual.result e (tail_answer c.args.rails c.args.inputs bytes c.args.from) c.from_residual.ensures.1
-    (turn_refused (tail_table c.args.rails c.args.inputs) bytes (tail_answer c.args.rails c.args.inputs bytes c.args.from) c.loop-index.index line (drop (c.loop-index.index + 1) (plain_lines bytes)) t e
+    (turn_refused (tail_table c.args.rails c.args.inputs) bytes (tail_answer c.args.rails c.args.inputs bytes c.args.from) (drop c.loop-index.index (plain_lines bytes)) line (drop (c.loop-index.index + 1) (plain_lines bytes)) t e
     (tail_follow t t.left c.first_word-word.result (map (plain_token bytes) c.rest_of.result.now)) here c.loop-index.invariant.told next (c.in_err-tail.ensures bytes))
 
 pub loop-index-preserved : goal.loop-index-preserved
@@ -30,7 +30,7 @@ loop-index-preserved c =
     let here = line_at bytes c.args.lines.now c.loop-index.index line c.requires.lines within c.index-line.ensures in
     let next = line_next bytes line c.tokens_of-tokens.result.now c.rest_of.result.now t c.first_word-word.result c.tokens_of-tokens.ensures (c.first_word-word.ensures) c.rest_of.ensures in
     record {
-      told = turn_read (tail_table c.args.rails c.args.inputs) bytes (tail_answer c.args.rails c.args.inputs bytes c.args.from) c.loop-index.index line (drop (c.loop-index.index + 1) (plain_lines bytes)) t (tail_of c.in_ok-tail.tail)
+      told = turn_read (tail_table c.args.rails c.args.inputs) bytes (tail_answer c.args.rails c.args.inputs bytes c.args.from) (drop c.loop-index.index (plain_lines bytes)) line (drop (c.loop-index.index + 1) (plain_lines bytes)) t (tail_of c.in_ok-tail.tail)
           (tail_follow t t.left c.first_word-word.result (map (plain_token bytes) c.rest_of.result.now)) here c.loop-index.invariant.told next (c.in_ok-tail.ensures bytes);
       kept = kept_judged c.args.rails c.args.inputs line.number t (tail_of c.in_ok-tail.tail) c.first_word-word.result (map (plain_token bytes) c.rest_of.result.now) c.loop-index.invariant.kept (c.in_ok-tail.ensures bytes);
     }
@@ -45,7 +45,7 @@ pub returns-clause-answer : goal.returns-clause-answer
 returns-clause-answer c =
     let past : length c.args.lines.now.lines.items ≤ c.loop-index.index = omega (arith, c.args.lines.now.lines.ok.0) in
     subst (Gives value_of c.value.result)
-    (turn_ends (tail_table c.args.rails c.args.inputs) c.args.bytes.now (tail_answer c.args.rails c.args.inputs c.args.bytes.now c.args.from) c.loop-index.index c.args.lines.now.count (tail_of c.loop-index.tail)
+    (turn_ends (tail_table c.args.rails c.args.inputs) c.args.bytes.now (tail_answer c.args.rails c.args.inputs c.args.bytes.now c.args.from) (drop c.loop-index.index (plain_lines c.args.bytes.now)) c.args.lines.now.count (tail_of c.loop-index.tail)
     (past_lines c.args.bytes.now c.args.lines.now c.loop-index.index c.requires.lines past)
     (ap (λ n. n + 1) (count_is c.args.bytes.now c.args.lines.now c.requires.lines)) c.loop-index.invariant.told)
     c.value.ensures.answer
