@@ -14,11 +14,11 @@ returns-in-Some c =
     ap (lines_answer bytes) (sym c.in_ok-source.ensures.left)
     ∙ text_goes_on bytes c.in_ok-source.source.left left c.in_ok-network.network (plain_line c.read_part.new.source.text c.in-Some.line.now) (drop 1 left) c.in_ok-network.ensures.answer c.in-Some.ensures
 
-pub returns-in-None : goal.returns-in-None
-returns-in-None c =
+pub returns : goal.returns
+returns c =
     let bytes = c.args.bytes.now in
     ap (lines_answer bytes) (sym c.in_ok-source.ensures.left)
-    ∙ text_read bytes c.in_ok-source.source.left c.read_part.new.source.left c.in_ok-network.network c.in_ok-network.ensures.answer c.in-None.ensures
+    ∙ text_read bytes c.in_ok-source.source.left c.read_part.new.source.left c.in_ok-network.network c.in_ok-network.ensures.answer c.in_default.ensures
 
 pub returns-in_err-network : goal.returns-in_err-network
 returns-in_err-network c =
