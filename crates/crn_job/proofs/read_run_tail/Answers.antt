@@ -58,7 +58,7 @@ lines-preserved g c =
 pub returns-clause-answer : goal.returns-clause-answer
 returns-clause-answer g c =
     let (same, t, shows, kept, before) = c.lines.invariant in
-    let ended = ap (told (run_tail_table c.args.species) c.args.bytes.now t) c.in-None.ensures in
+    let ended = ap (told (run_tail_table c.args.species) c.args.bytes.now t) c.in_default.ensures in
     sym before ∙ ended ∙ ap Read (sym (c.value.ensures ∙ value_shown c.lines.tail t shows))
 
 pub returns-clause-state : goal.returns-clause-state
