@@ -1,4 +1,4 @@
-use Rattle.std.proofs.Common.{sym, subst, ap}
+use Rattle.std.proofs.Common.{sym, subst}
 use Rattle.std.proofs.lemmas.Result.{IfOk-weaker}
 use Rattle.crn_grammar.specs.Reading.{Gives}
 use Rattle.crn_grammar.proofs.Turns.{passed_on}
