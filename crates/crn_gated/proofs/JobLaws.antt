@@ -1,5 +1,5 @@
 -- The answer to a gated job by the answers to its parts, and that each place of a job can end.
-use Rattle.std.proofs.Common.{◌≡◌, ℕ, zero, suc, false, List, [], ◌∷◌, drop, Some, refl, sym, ◌∙◌, ap, subst}
+use Rattle.std.proofs.Common.{◌≡◌, ℕ, zero, suc, false, List, [], ◌∷◌, Some, refl, sym, ◌∙◌, ap, subst}
 use Rattle.std.specs.Option.{option_and_then}
 use Rattle.crn_token.specs.Plain.{PlainLine, plain_lines, line_number, end_of}
 use Rattle.crn_grammar.specs.declared.error.TextError.{TextError}
@@ -9,23 +9,27 @@ use Rattle.crn_grammar.specs.Followed.{answer_map}
 use Rattle.crn_grammar.specs.Reading.{Refuses, RefusesPart}
 use Rattle.crn_grammar.proofs.FollowedLaws.{followed_on, followed_is, followed_refused, followed_can_end, Stops}
 use Rattle.crn_net.specs.declared.Rails.TheVariants.{Direct}
-use Rattle.crn_job.specs.Grammar.{Tail, TailValue, tail_start, tail_whole, tail_answer, with_input, value_at}
+use Rattle.crn_job.specs.Grammar.{Tail, TailValue, tail_start, tail_whole, lines_answer, with_input, value_at}
 use Rattle.crn_job.proofs.JobLaws.{nothing, input_line, zeros_lead, inputs_end, tail_places_can_end}
-use Rattle.crn_gated.specs.Grammar.{PlainGated, Place, Start, Header, Sized, InForms, gated_table, goes_on, gated_part}
+use Rattle.crn_gated.specs.Grammar.{PlainGated, Place, Start, Header, Sized, InForms, gated_table, goes_on, part_of_lines}
 use Rattle.crn_gated.proofs.GrammarLaws.{next_goes, gated_can_end}
 use Rattle.crn_gated.specs.JobGrammar.{gated_tail, gated_job_with, gated_job_table, gated_job_answer}
 
 -- ---- the answer
 
 -- the answer to a job, by that to its function
-job_is : (bytes : List ℕ) → gated_job_answer bytes ≡ followed_on gated_table goes_on gated_tail gated_job_with line_number (end_of bytes) (gated_part bytes)
-job_is bytes = followed_is gated_table goes_on gated_tail gated_job_with line_number (end_of bytes) Start (plain_lines bytes)
+job_is : (bytes : List ℕ) (lines : List PlainLine) → lines ≡ plain_lines bytes → gated_job_answer bytes ≡ followed_on gated_table goes_on gated_tail gated_job_with line_number (end_of bytes) (part_of_lines bytes lines)
+job_is bytes lines is =
+    followed_is gated_table goes_on gated_tail gated_job_with line_number (end_of bytes) Start (plain_lines bytes)
+    ∙ ap (λ ls. followed_on gated_table goes_on gated_tail gated_job_with line_number (end_of bytes) (part_of_lines bytes ls)) (sym is)
 
-pub job_read : (bytes : List ℕ) (f : PlainGated) (n : ℕ) → gated_part bytes ≡ Ends f (drop n (plain_lines bytes)) → gated_job_answer bytes ≡ answer_map (gated_job_with f) (tail_answer Direct f.variables bytes n)
-job_read bytes f n is = job_is bytes ∙ ap (followed_on gated_table goes_on gated_tail gated_job_with line_number (end_of bytes)) is
+pub job_read : (bytes : List ℕ) (lines left : List PlainLine) (f : PlainGated) → lines ≡ plain_lines bytes → part_of_lines bytes lines ≡ Ends f left
+    → gated_job_answer bytes ≡ answer_map (gated_job_with f) (lines_answer Direct f.variables bytes left)
+job_read bytes lines left f whole is = job_is bytes lines whole ∙ ap (followed_on gated_table goes_on gated_tail gated_job_with line_number (end_of bytes)) is
 
-pub job_refused : (bytes : List ℕ) (e : TextError) → RefusesPart e (gated_part bytes) → Refuses e (gated_job_answer bytes)
-job_refused bytes e is = subst (Refuses e) (sym (job_is bytes)) (followed_refused gated_table goes_on gated_tail gated_job_with line_number (end_of bytes) e (gated_part bytes) is)
+pub job_refused : (bytes : List ℕ) (lines : List PlainLine) (e : TextError) → lines ≡ plain_lines bytes → RefusesPart e (part_of_lines bytes lines) → Refuses e (gated_job_answer bytes)
+job_refused bytes lines e whole is =
+    subst (Refuses e) (sym (job_is bytes lines whole)) (followed_refused gated_table goes_on gated_tail gated_job_with line_number (end_of bytes) e (part_of_lines bytes lines) is)
 
 -- ---- each place can end
 

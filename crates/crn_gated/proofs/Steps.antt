@@ -1,7 +1,7 @@
 -- One line more of a gated function, and a text that is one.
-use Rattle.std.proofs.Common.{◌≡◌, ℕ, Bool, true, false, cond, List, [], ◌∷◌, drop, map, refl, sym, ◌∙◌, ap, subst}
+use Rattle.std.proofs.Common.{◌≡◌, ℕ, Bool, true, false, cond, List, [], ◌∷◌, map, refl, sym, ◌∙◌, ap, subst}
 use Rattle.crn_token.specs.declared.Line.{Line}
-use Rattle.crn_token.specs.Plain.{PlainLine, plain_token, plain_line, plain_lines, line_number, end_of}
+use Rattle.crn_token.specs.Plain.{PlainLine, plain_token, plain_line, line_number, end_of}
 use Rattle.crn_token.specs.Words.{rest_of, says, begins}
 use Rattle.crn_token.proofs.LineLaws.{rest_map, said_is}
 use Rattle.crn_grammar.specs.declared.error.TextError.{TextError}
@@ -9,7 +9,7 @@ use Rattle.crn_grammar.specs.Table.{Read, Malformed}
 use Rattle.crn_grammar.specs.Part.{Ends}
 use Rattle.crn_grammar.specs.Reading.{Refuses, RefusesPart}
 use Rattle.crn_grammar.proofs.Turns.{whole_answer, text_is_part, whole_refused}
-use Rattle.crn_gated.specs.Grammar.{PlainGated, Place, Start, word_after, follow, next, goes_on, gated_table, gated_part, gated_answer}
+use Rattle.crn_gated.specs.Grammar.{PlainGated, Place, Start, word_after, follow, next, goes_on, gated_table, part_of_lines, lines_answer}
 use Rattle.crn_gated.proofs.GrammarLaws.{never_next, next_on}
 
 -- the part goes on with the line where its tokens begin so
@@ -30,15 +30,16 @@ rest_said bytes line s on = go line.bad refl
 
 -- ---- a text is a part with nothing after it
 
--- the answer to a text, by its function part
-text_answer : (bytes : List ℕ) → gated_answer bytes ≡ whole_answer line_number (gated_part bytes)
-text_answer bytes = text_is_part gated_table goes_on line_number (end_of bytes) never_next Start (plain_lines bytes)
+-- the answer to lines that are a text, by its function part
+text_answer : (bytes : List ℕ) (lines : List PlainLine) → lines_answer bytes lines ≡ whole_answer line_number (part_of_lines bytes lines)
+text_answer bytes lines = text_is_part gated_table goes_on line_number (end_of bytes) never_next Start lines
 
-pub text_read : (bytes : List ℕ) (f : PlainGated) (n : ℕ) → gated_part bytes ≡ Ends f (drop n (plain_lines bytes)) → drop n (plain_lines bytes) ≡ [] → gated_answer bytes ≡ Read f
-text_read bytes f n is none = text_answer bytes ∙ ap (whole_answer line_number) (is ∙ ap (Ends f) none)
+pub text_read : (bytes : List ℕ) (lines left : List PlainLine) (f : PlainGated) → part_of_lines bytes lines ≡ Ends f left → left ≡ [] → lines_answer bytes lines ≡ Read f
+text_read bytes lines left f is none = text_answer bytes lines ∙ ap (whole_answer line_number) (is ∙ ap (Ends f) none)
 
-pub text_goes_on : (bytes : List ℕ) (f : PlainGated) (n : ℕ) (line : PlainLine) (rest : List PlainLine) → gated_part bytes ≡ Ends f (drop n (plain_lines bytes)) → drop n (plain_lines bytes) ≡ line ∷ rest → gated_answer bytes ≡ Malformed line.number
-text_goes_on bytes f n line rest is more = text_answer bytes ∙ ap (whole_answer line_number) (is ∙ ap (Ends f) more)
+pub text_goes_on : (bytes : List ℕ) (lines left : List PlainLine) (f : PlainGated) (line : PlainLine) (rest : List PlainLine) → part_of_lines bytes lines ≡ Ends f left → left ≡ line ∷ rest
+    → lines_answer bytes lines ≡ Malformed line.number
+text_goes_on bytes lines left f line rest is more = text_answer bytes lines ∙ ap (whole_answer line_number) (is ∙ ap (Ends f) more)
 
-pub text_refused : (bytes : List ℕ) (e : TextError) → RefusesPart e (gated_part bytes) → Refuses e (gated_answer bytes)
-text_refused bytes e is = subst (Refuses e) (sym (text_answer bytes)) (whole_refused line_number e (gated_part bytes) is)
+pub text_refused : (bytes : List ℕ) (lines : List PlainLine) (e : TextError) → RefusesPart e (part_of_lines bytes lines) → Refuses e (lines_answer bytes lines)
+text_refused bytes lines e is = subst (Refuses e) (sym (text_answer bytes lines)) (whole_refused line_number e (part_of_lines bytes lines) is)

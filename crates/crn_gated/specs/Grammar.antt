@@ -126,10 +126,16 @@ gated_table = record { start = Start; next = next; whole = whole; limit = limit 
 
 -- ---- texts
 
--- the answer to a text
-abbrev pub gated_answer : List ℕ → Answer PlainGated (Counted × ℕ)
-gated_answer bytes = answer gated_table line_number (end_of bytes) Start (plain_lines bytes)
+-- the answer to lines of a text, and to a text
+abbrev pub lines_answer : List ℕ → List PlainLine → Answer PlainGated (Counted × ℕ)
+lines_answer bytes lines = answer gated_table line_number (end_of bytes) Start lines
 
--- the answer to the function part that begins a text
+abbrev pub gated_answer : List ℕ → Answer PlainGated (Counted × ℕ)
+gated_answer bytes = lines_answer bytes (plain_lines bytes)
+
+-- the answer to the function part that lines of a text begin with, and to the one that begins a text
+abbrev pub part_of_lines : List ℕ → List PlainLine → PartAnswer PlainLine PlainGated (Counted × ℕ)
+part_of_lines bytes lines = part_answer gated_table goes_on line_number (end_of bytes) Start lines
+
 abbrev pub gated_part : List ℕ → PartAnswer PlainLine PlainGated (Counted × ℕ)
-gated_part bytes = part_answer gated_table goes_on line_number (end_of bytes) Start (plain_lines bytes)
+gated_part bytes = part_of_lines bytes (plain_lines bytes)

@@ -1,7 +1,6 @@
 //! The text of gated jobs: a gated function, the amounts of its inputs, and segments.
 
-ghost use Rattle.std.specs.Prelude.{◌≡◌, ◌≤◌, length, vec_len, IfOk};
-ghost use Rattle.crn_token.specs.Lines.{AreLinesOf};
+ghost use Rattle.std.specs.Prelude.{◌≡◌, length, IfOk};
 ghost use Rattle.crn_token.specs.Plain.{plain_lines, line_number, end_of};
 ghost use Rattle.crn_grammar.specs.Table.{IsText, PassesNone, IsAnswer};
 ghost use Rattle.crn_grammar.specs.Table as table;
@@ -9,18 +8,19 @@ ghost use Rattle.crn_grammar.specs.Followed.{answer_map};
 ghost use Rattle.crn_grammar.specs.Reading.{Gives, IsRight};
 ghost use Rattle.crn_net.specs.Network.{AreNotNegative};
 ghost use Rattle.crn_net.specs.declared.Rails.TheVariants as rails;
-ghost use Rattle.crn_job.specs.Grammar.{tail_answer};
+ghost use Rattle.crn_job.specs.Grammar.{lines_answer};
 ghost use Rattle.crn_gated.specs.Forms.{AreFewGatedForms};
 ghost use Rattle.crn_gated.specs.JobGrammar.{PlainGatedJob, gated_job_table, gated_job_answer, gated_job_with};
 ghost use Rattle.crn_gated.specs.Reading.{gated_of, gated_job_of};
 
-use crate::{GatedFunction, read_gated_lines};
+use crate::GatedFunction;
+use crate::text::read_part;
 use crn_fraction::Frac;
 use crn_grammar::TextError;
-use crn_job::read_job_tail;
+use crn_job::read_tail;
 use crn_net::Rails;
 use crn_segments::Segment;
-use crn_token::{Lines, token_lines};
+use crn_token::{LineSource, TextLines};
 use std::alloc::Global;
 
 /// Why a text has no gated job that can be answered.
@@ -58,31 +58,29 @@ fn read_text(alloc: Global, bytes: &[u8]) -> Result<GatedJob, GatedJobError>
     ensures amounts { IfOk result (λ j. (length j.amounts.items ≡ j.function.variables)
         × AreNotNegative j.amounts.items) }
 {
-    let lines = token_lines(alloc, bytes)?;
-    let (function, next) = read_gated_lines(alloc, bytes, &lines)?;
-    read_rest(alloc, bytes, &lines, function, next)
+    let mut source = TextLines::new(alloc, bytes)?;
+    let function = read_part(alloc, bytes, &mut source)?;
+    read_rest(alloc, bytes, &mut source, function)
 }
 
 // The job of this function and the lines after it.
-fn read_rest(
+fn read_rest<S: LineSource>(
     alloc: Global,
     bytes: &[u8],
-    lines: &Lines,
+    source: &mut S,
     function: GatedFunction,
-    from: usize,
 ) -> Result<GatedJob, GatedJobError>
-    requires lines { AreLinesOf bytes.now lines.now }
-    requires from { from ≤ vec_len lines.now.lines }
+    requires text { S.text source.old ≡ bytes.now }
     requires forms { AreFewGatedForms function.variables function.forms.items }
     ensures answer { Gives gated_job_of result
         (answer_map (gated_job_with (gated_of function))
-        (tail_answer rails.Direct function.variables bytes.now from)) }
+        (lines_answer rails.Direct function.variables bytes.now (S.left source.old))) }
     ensures function { IfOk result (λ j. j.function ≡ function) }
     ensures amounts { IfOk result (λ j. (length j.amounts.items ≡ function.variables)
         × AreNotNegative j.amounts.items) }
 {
     let inputs = function.variables;
-    let (amounts, segments) = read_job_tail(alloc, bytes, lines, from, inputs, Rails::Direct)?;
+    let (amounts, segments) = read_tail(alloc, bytes, source, inputs, Rails::Direct)?;
     Ok(GatedJob {
         function,
         amounts,

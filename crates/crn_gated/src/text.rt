@@ -1,21 +1,21 @@
 //! The text of a gated function: its lines, and its end.
 
-ghost use Rattle.std.specs.Prelude.{◌≡◌, ◌≤◌, List, drop, vec_len, IfOk};
+ghost use Rattle.std.specs.Prelude.{◌≡◌, ◌≤◌, List, vec_len, IfOk};
 ghost use Rattle.crn_token.specs.Lines.{AreLinesOf};
 ghost use Rattle.crn_token.specs.Plain.{PlainLine, plain_lines, line_number, end_of};
 ghost use Rattle.crn_grammar.specs.Table.{IsText, PassesNone, IsAnswer};
 ghost use Rattle.crn_grammar.specs.Table as table;
-ghost use Rattle.crn_grammar.specs.Part.{IsPart, IsPartAnswer, Ends, part_end};
-ghost use Rattle.crn_grammar.specs.Reading.{Gives, GivesPart, IsRight, IsRightPart};
+ghost use Rattle.crn_grammar.specs.Part.{IsPart, IsPartAnswer, Ends};
+ghost use Rattle.crn_grammar.specs.Reading.{Gives, GivesPart, GivesUpTo, IsRight, IsRightPart};
 ghost use Rattle.crn_gated.specs.Forms.{AreFewGatedForms};
-ghost use Rattle.crn_gated.specs.Grammar.{PlainGated, gated_table, goes_on, gated_part, gated_answer};
-ghost use Rattle.crn_gated.specs.Reading.{shown, gated_of, IsKept};
+ghost use Rattle.crn_gated.specs.Grammar.{PlainGated, gated_table, goes_on, gated_part, gated_answer, part_of_lines};
+ghost use Rattle.crn_gated.specs.Reading.{gated_of};
 
 use crate::GatedFunction;
 use crate::place::Place;
 use crn_grammar::TextError;
 use crn_token::words::tokens_of;
-use crn_token::{Lines, token_lines};
+use crn_token::{LineSource, Lines, LinesFrom, TextLines};
 use std::alloc::Global;
 
 /// Why a text has no gated function that can be answered.
@@ -39,11 +39,11 @@ pub fn read_gated_lines(
     ensures next { IfOk result (λ r. r.1 ≤ vec_len lines.now.lines) }
     ensures forms { IfOk result (λ r. AreFewGatedForms r.0.variables r.0.forms.items) }
 {
-    read_part(alloc, bytes, lines)
+    read_from(alloc, bytes, lines)
 }
 
-// The function part, line by line.
-fn read_part(
+// The same, line by line.
+fn read_from(
     alloc: Global,
     bytes: &[u8],
     lines: &Lines,
@@ -53,31 +53,31 @@ fn read_part(
     ensures next { IfOk result (λ r. r.1 ≤ vec_len lines.now.lines) }
     ensures forms { IfOk result (λ r. AreFewGatedForms r.0.variables r.0.forms.items) }
 {
-    let mut place = Place::Start;
-    for index in 0..lines.lines.len() {
-        let line = &lines.lines[index];
-        if !place.goes_on(bytes, tokens_of(line)) {
-            return part_up_to(place, line.number, index);
-        }
-        place = place.after(alloc, bytes, line)?;
-    }
-    part_up_to(place, lines.count + 1, lines.lines.len())
+    let mut source = LinesFrom::new(bytes, lines, 0);
+    let function = read_part(alloc, bytes, &mut source)?;
+    Ok((function, source.index()))
 }
 
-// The function of a part that ends before the line with this number, which has this index.
-fn part_up_to(
-    place: Place,
-    number: usize,
-    index: usize,
-) -> Result<(GatedFunction, usize), GatedTextError>
-    requires { IsKept (shown place) }
-    ensures answer { (lines : List PlainLine)
-        → GivesPart gated_of lines result (part_end gated_table number (shown place) (drop index lines)) }
-    ensures next { IfOk result (λ r. r.1 ≡ index) }
-    ensures forms { IfOk result (λ r. AreFewGatedForms r.0.variables r.0.forms.items) }
+/// The function part, line by line. It ends at the first line that does not begin with the word that may follow, and that line stands next then.
+pub fn read_part<S: LineSource>(
+    alloc: Global,
+    bytes: &[u8],
+    source: &mut S,
+) -> Result<GatedFunction, GatedTextError>
+    requires text { S.text source.old ≡ bytes.now }
+    ensures answer { GivesUpTo gated_of (S.left source.new) result (part_of_lines bytes.now (S.left source.old)) }
+    ensures same_text { S.text source.new ≡ S.text source.old }
+    ensures forms { IfOk result (λ f. AreFewGatedForms f.variables f.forms.items) }
 {
-    let function = place.function(number)?;
-    Ok((function, index))
+    let mut place = Place::Start;
+    'lines: while let Some(line) = source.line() {
+        if !place.goes_on(bytes, tokens_of(line)) {
+            return place.function(line.number);
+        }
+        place = place.after(alloc, bytes, line)?;
+        source.advance()?;
+    }
+    place.function(source.end())
 }
 
 /// The gated function of a text.
@@ -99,11 +99,10 @@ fn read_text(alloc: Global, bytes: &[u8]) -> Result<GatedFunction, GatedTextErro
     ensures answer { Gives gated_of result (gated_answer bytes.now) }
     ensures forms { IfOk result (λ f. AreFewGatedForms f.variables f.forms.items) }
 {
-    let lines = token_lines(alloc, bytes)?;
-    let (function, next) = read_gated_lines(alloc, bytes, &lines)?;
-    if next < lines.lines.len() {
-        let line = lines.lines[next].number;
-        return Err(GatedTextError::Malformed { line });
+    let mut source = TextLines::new(alloc, bytes)?;
+    let function = read_part(alloc, bytes, &mut source)?;
+    if let Some(line) = source.line() {
+        return Err(GatedTextError::Malformed { line: line.number });
     }
     Ok(function)
 }

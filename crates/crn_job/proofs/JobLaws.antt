@@ -1,5 +1,5 @@
 -- The answer to a job by the answers to its parts, and that each place of a job can end.
-use Rattle.std.proofs.Common.{◌≡◌, ℕ, zero, suc, false, true, List, [], ◌∷◌, drop, Option, Some, None, refl, sym, ◌∙◌, ap, subst, ⊎_elim}
+use Rattle.std.proofs.Common.{◌≡◌, ℕ, zero, suc, false, true, List, [], ◌∷◌, Option, Some, None, refl, sym, ◌∙◌, ap, subst, ⊎_elim}
 use Rattle.std.proofs.lemmas.Bool.{cases_Bool}
 use Rattle.std.specs.Prelude.{pos, codes}
 use Rattle.std.specs.Option.{option_and_then}
@@ -13,27 +13,31 @@ use Rattle.crn_grammar.proofs.TableLaws.{can_end}
 use Rattle.crn_fraction.specs.Rational.{ℚ}
 use Rattle.crn_form_text.specs.Grammar.{fraction, Whole}
 use Rattle.crn_function_text.specs.Words.{first_word}
-use Rattle.crn_function_text.specs.Grammar.{PlainFunction, Place, Start, function_table, goes_on, function_part}
+use Rattle.crn_function_text.specs.Grammar.{PlainFunction, Place, Start, function_table, goes_on, part_of_lines}
 use Rattle.crn_function_text.specs.Grammar as functions
 use Rattle.crn_function_text.proofs.GrammarLaws.{not_followed, function_can_end}
 use Rattle.crn_function_text.proofs.Steps.{never_other}
 use Rattle.crn_net.specs.declared.Rails.{Rails}
 use Rattle.crn_net.specs.declared.Rails.TheVariants as rails
 use Rattle.crn_grammar.specs.Followed.{answer_map}
-use Rattle.crn_job.specs.Grammar.{Tail, TailValue, tail_start, tail_next, tail_whole, tail_table, job_tail, tail_answer, rails_of, job_with, job_table, job_answer, with_input, value_at}
+use Rattle.crn_job.specs.Grammar.{Tail, TailValue, tail_start, tail_next, tail_whole, tail_table, job_tail, lines_answer, rails_of, job_with, job_table, job_answer, with_input, value_at}
 use Rattle.crn_grammar.proofs.FollowedLaws.{followed_on, followed_is, followed_refused, followed_can_end, Stops}
 
 -- ---- the answer
 
 -- the answer to a job, by that to its function part
-job_is : (bytes : List ℕ) → job_answer bytes ≡ followed_on function_table goes_on job_tail job_with line_number (end_of bytes) (function_part bytes 0)
-job_is bytes = followed_is function_table goes_on job_tail job_with line_number (end_of bytes) Start (plain_lines bytes)
+job_is : (bytes : List ℕ) (lines : List PlainLine) → lines ≡ plain_lines bytes → job_answer bytes ≡ followed_on function_table goes_on job_tail job_with line_number (end_of bytes) (part_of_lines bytes lines)
+job_is bytes lines is =
+    followed_is function_table goes_on job_tail job_with line_number (end_of bytes) Start (plain_lines bytes)
+    ∙ ap (λ ls. followed_on function_table goes_on job_tail job_with line_number (end_of bytes) (part_of_lines bytes ls)) (sym is)
 
-pub job_read : (bytes : List ℕ) (f : PlainFunction) (n : ℕ) → function_part bytes 0 ≡ Ends f (drop n (plain_lines bytes)) → job_answer bytes ≡ answer_map (job_with f) (tail_answer (rails_of f.kind) f.variables bytes n)
-job_read bytes f n is = job_is bytes ∙ ap (followed_on function_table goes_on job_tail job_with line_number (end_of bytes)) is
+pub job_read : (bytes : List ℕ) (lines left : List PlainLine) (f : PlainFunction) → lines ≡ plain_lines bytes → part_of_lines bytes lines ≡ Ends f left
+    → job_answer bytes ≡ answer_map (job_with f) (lines_answer (rails_of f.kind) f.variables bytes left)
+job_read bytes lines left f whole is = job_is bytes lines whole ∙ ap (followed_on function_table goes_on job_tail job_with line_number (end_of bytes)) is
 
-pub job_refused : (bytes : List ℕ) (e : TextError) → RefusesPart e (function_part bytes 0) → Refuses e (job_answer bytes)
-job_refused bytes e is = subst (Refuses e) (sym (job_is bytes)) (followed_refused function_table goes_on job_tail job_with line_number (end_of bytes) e (function_part bytes 0) is)
+pub job_refused : (bytes : List ℕ) (lines : List PlainLine) (e : TextError) → lines ≡ plain_lines bytes → RefusesPart e (part_of_lines bytes lines) → Refuses e (job_answer bytes)
+job_refused bytes lines e whole is =
+    subst (Refuses e) (sym (job_is bytes lines whole)) (followed_refused function_table goes_on job_tail job_with line_number (end_of bytes) e (part_of_lines bytes lines) is)
 
 -- ---- each place can end
 -- their amounts

@@ -1,27 +1,38 @@
 -- The answer to a run job by the answers to its parts, and that each place of a run job can end.
-use Rattle.std.proofs.Common.{◌≡◌, ℕ, zero, suc, true, List, [], drop, Option, Some, None, refl, sym, ◌∙◌, ap, subst}
+use Rattle.std.proofs.Common.{◌≡◌, ℕ, zero, suc, true, List, [], drop, length, Option, Some, None, refl, sym, ◌∙◌, ap, subst}
+use Rattle.std.proofs.Math.Seq.{drop-append_seam}
 use Rattle.crn_token.specs.Plain.{PlainLine, plain_lines, line_number, end_of}
 use Rattle.crn_grammar.specs.declared.error.TextError.{TextError}
 use Rattle.crn_grammar.specs.Table.{CanEnd}
-use Rattle.crn_grammar.specs.Part.{Ends}
+use Rattle.crn_grammar.specs.Part.{Ends, IsPart}
 use Rattle.crn_grammar.specs.Reading.{Refuses, RefusesPart}
 use Rattle.crn_net.specs.Network.{Network}
-use Rattle.crn_net_text.specs.Grammar.{Place, Start, Titled, Naming, Placed, Closed, Listing, next, network_table, goes_on, network_part}
+use Rattle.crn_net_text.specs.Grammar.{Place, Start, Titled, Naming, Placed, Closed, Listing, next, network_table, goes_on, part_of_lines}
 use Rattle.crn_net_text.proofs.Kept.{network_can_end}
 use Rattle.crn_grammar.specs.Followed.{answer_map}
+use Rattle.crn_job.specs.Reading.{BeginsWithNetwork}
 use Rattle.crn_job.specs.RunGrammar.{RunTail, RunValue, run_start, run_tail_table, run_tail, run_tail_answer, run_with, run_table, run_answer, state_given}
 use Rattle.crn_grammar.proofs.FollowedLaws.{followed_on, followed_is, followed_refused, followed_can_end, Stops}
 
 -- ---- the answer
 -- the answer to a run job, by that to its network part
-run_is : (bytes : List ℕ) → run_answer bytes ≡ followed_on network_table goes_on run_tail run_with line_number (end_of bytes) (network_part bytes)
-run_is bytes = followed_is network_table goes_on run_tail run_with line_number (end_of bytes) Start (plain_lines bytes)
+run_is : (bytes : List ℕ) (lines : List PlainLine) → lines ≡ plain_lines bytes → run_answer bytes ≡ followed_on network_table goes_on run_tail run_with line_number (end_of bytes) (part_of_lines bytes lines)
+run_is bytes lines is =
+    followed_is network_table goes_on run_tail run_with line_number (end_of bytes) Start (plain_lines bytes)
+    ∙ ap (λ ls. followed_on network_table goes_on run_tail run_with line_number (end_of bytes) (part_of_lines bytes ls)) (sym is)
 
-pub run_read : (bytes : List ℕ) (net : Network) (n : ℕ) → network_part bytes ≡ Ends net (drop n (plain_lines bytes)) → run_answer bytes ≡ answer_map (run_with net) (run_tail_answer net.species bytes n)
-run_read bytes net n is = run_is bytes ∙ ap (followed_on network_table goes_on run_tail run_with line_number (end_of bytes)) is
+pub run_read : (bytes : List ℕ) (lines left : List PlainLine) (net : Network) → lines ≡ plain_lines bytes → part_of_lines bytes lines ≡ Ends net left → run_answer bytes ≡ answer_map (run_with net) (run_tail_answer net.species bytes left)
+run_read bytes lines left net whole is = run_is bytes lines whole ∙ ap (followed_on network_table goes_on run_tail run_with line_number (end_of bytes)) is
 
-pub run_refused : (bytes : List ℕ) (e : TextError) → RefusesPart e (network_part bytes) → Refuses e (run_answer bytes)
-run_refused bytes e is = subst (Refuses e) (sym (run_is bytes)) (followed_refused network_table goes_on run_tail run_with line_number (end_of bytes) e (network_part bytes) is)
+pub run_refused : (bytes : List ℕ) (lines : List PlainLine) (e : TextError) → lines ≡ plain_lines bytes → RefusesPart e (part_of_lines bytes lines) → Refuses e (run_answer bytes)
+run_refused bytes lines e whole is =
+    subst (Refuses e) (sym (run_is bytes lines whole)) (followed_refused network_table goes_on run_tail run_with line_number (end_of bytes) e (part_of_lines bytes lines) is)
+
+-- a text whose lines are a network part and then others begins with the network
+pub begins_with : (bytes : List ℕ) (lines left : List PlainLine) (net : Network) → lines ≡ plain_lines bytes → part_of_lines bytes lines ≡ Ends net left → IsPart network_table goes_on lines net left → BeginsWithNetwork bytes net
+begins_with bytes lines left net whole is part =
+    let left_is : left ≡ drop (length part.part) (plain_lines bytes) = sym (drop-append_seam part.part left) ∙ ap (drop (length part.part)) (sym part.lines_are ∙ whole) in
+    (length part.part, ap (part_of_lines bytes) (sym whole) ∙ is ∙ ap (Ends net) left_is)
 
 -- ---- each place can end
 -- lines of the network part are lines of the run job

@@ -173,6 +173,9 @@ amount_count f = f.variables * amounts_of (rails_of f.kind)
 abbrev pub job_answer : List ℕ → Answer PlainJob (Counted × ℕ)
 job_answer bytes = answer job_table line_number (end_of bytes) job_table.start (plain_lines bytes)
 
--- the answer to the lines after a function part, from a line on that is counted from 0
+-- the answer to lines after a function part, and to those from a line on that is counted from 0
+abbrev pub lines_answer : Rails → ℕ → List ℕ → List PlainLine → Answer TailValue (Counted × ℕ)
+lines_answer rails inputs bytes lines = answer (tail_table rails inputs) line_number (end_of bytes) (tail_start rails inputs) lines
+
 abbrev pub tail_answer : Rails → ℕ → List ℕ → ℕ → Answer TailValue (Counted × ℕ)
-tail_answer rails inputs bytes from = answer (tail_table rails inputs) line_number (end_of bytes) (tail_start rails inputs) (drop from (plain_lines bytes))
+tail_answer rails inputs bytes from = lines_answer rails inputs bytes (drop from (plain_lines bytes))

@@ -107,6 +107,6 @@ run_table = followed_table network_table goes_on run_tail run_with
 abbrev pub run_answer : List ℕ → Answer PlainRunJob (Counted × ℕ)
 run_answer bytes = answer run_table line_number (end_of bytes) run_table.start (plain_lines bytes)
 
--- the answer to the lines after a network part, from a line on that is counted from 0
-abbrev pub run_tail_answer : ℕ → List ℕ → ℕ → Answer RunValue (Counted × ℕ)
-run_tail_answer n bytes from = answer (run_tail_table n) line_number (end_of bytes) (run_start n) (drop from (plain_lines bytes))
+-- the answer to lines after a network part
+abbrev pub run_tail_answer : ℕ → List ℕ → List PlainLine → Answer RunValue (Counted × ℕ)
+run_tail_answer n bytes lines = answer (run_tail_table n) line_number (end_of bytes) (run_start n) lines

@@ -15,19 +15,19 @@ ghost use Rattle.crn_formula.specs.Domains.{domain_for};
 ghost use Rattle.crn_formula.specs.Views.{kind_of};
 ghost use Rattle.crn_net.specs.Network.{AreNotNegative, IsNotNegative, IsState};
 ghost use Rattle.crn_function_text.specs.Reading.{function_of};
-ghost use Rattle.crn_job.specs.Grammar.{PlainJob, TailValue, job_table, job_answer, job_with, tail_table, tail_answer, rails_of, amounts_of, amount_count};
+ghost use Rattle.crn_job.specs.Grammar.{PlainJob, TailValue, job_table, job_answer, job_with, tail_table, tail_answer, lines_answer, rails_of, amounts_of, amount_count};
 ghost use Rattle.crn_job.specs.RunGrammar.{PlainRunJob, run_table, run_answer, run_with, run_tail_answer};
 ghost use Rattle.crn_job.specs.Reading.{BeginsWithNetwork, value_of, job_of, run_value_of, run_job_of};
 
 use crn_formula::{Function, FunctionKind};
 use crn_fraction::Frac;
-use crn_function_text::read_function_lines;
+use crn_function_text::read_function_part;
 use crn_grammar::TextError;
 use crn_net::{Network, Rails};
-use crn_net_text::read_network_lines;
+use crn_net_text::read_network_part;
 use crn_segments::{Segment, State};
 use crn_token::words::{rest_of, tokens_of};
-use crn_token::{Lines, token_lines};
+use crn_token::{LineSource, Lines, LinesFrom, TextLines};
 use run_tail::RunTail;
 use std::alloc::Global;
 use tail::Tail;
@@ -80,31 +80,52 @@ pub fn read_job_tail(
         → Gives value_of result (table.Read v) }
     ensures amounts { IfOk result (λ r. (length r.0.items ≡ inputs * amounts_of rails) × AreNotNegative r.0.items) }
 {
-    read_tail(alloc, bytes, lines, from, inputs, rails)
+    let mut source = LinesFrom::new(bytes, lines, from);
+    read_lines(alloc, bytes, &mut source, inputs, rails)
 }
 
-// The lines after a function part, one by one.
-fn read_tail(
+/// The amounts of the `input` lines and the segments of the `segment` lines, of all lines that are left.
+pub fn read_tail<S: LineSource>(
     alloc: Global,
     bytes: &[u8],
-    lines: &Lines,
-    from: usize,
+    source: &mut S,
     inputs: usize,
     rails: Rails,
 ) -> Result<(Vec<Frac>, Vec<Segment>), JobError>
-    requires lines { AreLinesOf bytes.now lines.now }
-    requires from { from ≤ vec_len lines.now.lines }
-    ensures answer { Gives value_of result (tail_answer rails inputs bytes.now from) }
+    requires text { S.text source.old ≡ bytes.now }
+    requires some { 1 ≤ inputs }
+    requires few { inputs ≤ 8 }
+    ensures answer { Gives value_of result (lines_answer rails inputs bytes.now (S.left source.old)) }
+    // Each answer is the right one: the amounts and segments of the lines, the malformed line, or the first limit that is passed.
+    ensures part { IsRight value_of result (IsAnswer (tail_table rails inputs) line_number (end_of bytes.now) (S.left source.old)) }
+    // Lines that pass no limit are read.
+    ensures read { (v : TailValue) → IsText (tail_table rails inputs) (S.left source.old) v → PassesNone (tail_table rails inputs) (S.left source.old)
+        → Gives value_of result (table.Read v) }
+    ensures amounts { IfOk result (λ r. (length r.0.items ≡ inputs * amounts_of rails) × AreNotNegative r.0.items) }
+{
+    read_lines(alloc, bytes, source, inputs, rails)
+}
+
+// The lines after a function part, one by one.
+fn read_lines<S: LineSource>(
+    alloc: Global,
+    bytes: &[u8],
+    source: &mut S,
+    inputs: usize,
+    rails: Rails,
+) -> Result<(Vec<Frac>, Vec<Segment>), JobError>
+    requires text { S.text source.old ≡ bytes.now }
+    ensures answer { Gives value_of result (lines_answer rails inputs bytes.now (S.left source.old)) }
     ensures amounts { IfOk result (λ r. (length r.0.items ≡ inputs * amounts_of rails) × AreNotNegative r.0.items) }
 {
     let mut tail = Tail::new(alloc, rails, inputs);
-    for index in from..lines.lines.len() {
-        let line = &lines.lines[index];
+    'lines: while let Some(line) = source.line() {
         let tokens = tokens_of(line);
         let word = first_word(bytes, tokens);
         tail = tail.after(alloc, line.number, word, rest_of(tokens))?;
+        source.advance()?;
     }
-    tail.value(lines.count + 1)
+    tail.value(source.end())
 }
 
 /// The job of a text: a function part, then an `input` line for each variable, with plus and minus for a function by a formula or by
@@ -127,9 +148,9 @@ fn read_text(alloc: Global, bytes: &[u8]) -> Result<Job, JobError>
     ensures domain { IfOk result (λ j. j.function.domain ≡ domain_for j.function.variables (kind_of j.function.kind)) }
     ensures amounts { IfOk result (λ j. (length j.amounts.items ≡ amount_count (function_of j.function)) × AreNotNegative j.amounts.items) }
 {
-    let lines = token_lines(alloc, bytes)?;
-    let (function, next) = read_function_lines(alloc, bytes, &lines, 0)?;
-    read_rest(alloc, bytes, &lines, function, next)
+    let mut source = TextLines::new(alloc, bytes)?;
+    let function = read_function_part(alloc, bytes, &mut source)?;
+    read_rest(alloc, bytes, &mut source, function)
 }
 
 // A direct function has one amount an input, each other one two.
@@ -143,22 +164,20 @@ fn rails_of(function: &Function) -> Rails
 }
 
 // The job of this function and the lines after it.
-fn read_rest(
+fn read_rest<S: LineSource>(
     alloc: Global,
     bytes: &[u8],
-    lines: &Lines,
+    source: &mut S,
     function: Function,
-    from: usize,
 ) -> Result<Job, JobError>
-    requires lines { AreLinesOf bytes.now lines.now }
-    requires from { from ≤ vec_len lines.now.lines }
-    ensures answer { Gives job_of result (answer_map (job_with (function_of function)) (tail_answer (rails_of (kind_of function.kind)) function.variables bytes.now from)) }
+    requires text { S.text source.old ≡ bytes.now }
+    ensures answer { Gives job_of result (answer_map (job_with (function_of function)) (lines_answer (rails_of (kind_of function.kind)) function.variables bytes.now (S.left source.old))) }
     ensures function { IfOk result (λ j. j.function ≡ function) }
     ensures amounts { IfOk result (λ j. (length j.amounts.items ≡ amount_count (function_of function)) × AreNotNegative j.amounts.items) }
 {
     let rails = rails_of(&function);
     let inputs = function.variables();
-    let (amounts, segments) = read_job_tail(alloc, bytes, lines, from, inputs, rails)?;
+    let (amounts, segments) = read_lines(alloc, bytes, source, inputs, rails)?;
     Ok(Job {
         function,
         amounts,
@@ -186,27 +205,25 @@ fn read_run_text(alloc: Global, bytes: &[u8]) -> Result<RunJob, JobError>
     ensures network { IfOk result (λ j. BeginsWithNetwork bytes.now j.network) }
     ensures state { IfOk result (λ j. IsState j.network j.state) }
 {
-    let lines = token_lines(alloc, bytes)?;
-    let (network, next) = read_network_lines(alloc, bytes, &lines)?;
-    read_run_rest(alloc, bytes, &lines, network, next)
+    let mut source = TextLines::new(alloc, bytes)?;
+    let network = read_network_part(alloc, bytes, &mut source)?;
+    read_run_rest(alloc, bytes, &mut source, network)
 }
 
 // The run job of this network and the lines after it.
-fn read_run_rest(
+fn read_run_rest<S: LineSource>(
     alloc: Global,
     bytes: &[u8],
-    lines: &Lines,
+    source: &mut S,
     network: Network,
-    from: usize,
 ) -> Result<RunJob, JobError>
-    requires lines { AreLinesOf bytes.now lines.now }
-    requires from { from ≤ vec_len lines.now.lines }
-    ensures answer { Gives run_job_of result (answer_map (run_with network) (run_tail_answer network.species bytes.now from)) }
+    requires text { S.text source.old ≡ bytes.now }
+    ensures answer { Gives run_job_of result (answer_map (run_with network) (run_tail_answer network.species bytes.now (S.left source.old))) }
     ensures network { IfOk result (λ j. j.network ≡ network) }
     ensures state { IfOk result (λ j. IsState network j.state) }
 {
     let species = network.species();
-    let (state, segments) = read_run_tail(alloc, bytes, lines, from, species)?;
+    let (state, segments) = read_run_tail(alloc, bytes, source, species)?;
     Ok(RunJob {
         network,
         state,
@@ -214,25 +231,23 @@ fn read_run_rest(
     })
 }
 
-// The state of so many species and the segments, from the line with the index `from` to the end.
-fn read_run_tail(
+// The state of so many species and the segments, of all lines that are left.
+fn read_run_tail<S: LineSource>(
     alloc: Global,
     bytes: &[u8],
-    lines: &Lines,
-    from: usize,
+    source: &mut S,
     species: u32,
 ) -> Result<(State, Vec<Segment>), JobError>
-    requires lines { AreLinesOf bytes.now lines.now }
-    requires from { from ≤ vec_len lines.now.lines }
-    ensures answer { Gives run_value_of result (run_tail_answer species bytes.now from) }
+    requires text { S.text source.old ≡ bytes.now }
+    ensures answer { Gives run_value_of result (run_tail_answer species bytes.now (S.left source.old)) }
     ensures state { IfOk result (λ r. (length r.0 ≡ species) × IsNotNegative r.0) }
 {
     let mut tail = RunTail::new(alloc, species)?;
-    for index in from..lines.lines.len() {
-        let line = &lines.lines[index];
+    'lines: while let Some(line) = source.line() {
         let tokens = tokens_of(line);
         let word = first_word(bytes, tokens);
         tail = tail.after(alloc, bytes, line.number, word, rest_of(tokens))?;
+        source.advance()?;
     }
     Ok(tail.value())
 }

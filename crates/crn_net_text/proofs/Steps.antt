@@ -1,6 +1,6 @@
 -- A text that is a network part.
-use Rattle.std.proofs.Common.{◌≡◌, ℕ, zero, suc, true, false, List, [], ◌∷◌, drop, None, refl, sym, ◌∙◌, ap, subst}
-use Rattle.crn_token.specs.Plain.{Plain, PlainLine, plain_lines, line_number, end_of}
+use Rattle.std.proofs.Common.{◌≡◌, ℕ, zero, suc, true, false, List, [], ◌∷◌, None, refl, sym, ◌∙◌, ap, subst}
+use Rattle.crn_token.specs.Plain.{Plain, PlainLine, line_number, end_of}
 use Rattle.crn_token.specs.Words.{says}
 use Rattle.crn_grammar.specs.declared.error.TextError.{TextError}
 use Rattle.crn_grammar.specs.Table.{Read, Malformed}
@@ -8,7 +8,7 @@ use Rattle.crn_grammar.specs.Part.{Ends}
 use Rattle.crn_grammar.specs.Reading.{Refuses, RefusesPart}
 use Rattle.crn_grammar.proofs.Turns.{whole_answer, text_is_part, whole_refused}
 use Rattle.crn_net.specs.Network.{Network}
-use Rattle.crn_net_text.specs.Grammar.{Place, Start, Titled, Naming, Placed, Closed, Listing, follow, next, is_open, goes_on, network_table, network_part, network_answer}
+use Rattle.crn_net_text.specs.Grammar.{Place, Start, Titled, Naming, Placed, Closed, Listing, follow, next, is_open, goes_on, network_table, part_of_lines, lines_answer}
 
 -- a whole network is followed by nothing
 not_followed : (s : Place) (tokens : List Plain) → is_open s ≡ false → follow s tokens ≡ None
@@ -23,15 +23,16 @@ not_followed (Listing (suc m) net) tokens stop = let wrong : true ≡ false = st
 never_next : (s : Place) (line : PlainLine) → goes_on s line ≡ false → next s line ≡ None
 never_next s line off = not_followed s (says line) off
 
--- the answer to a text, by its network part
-text_answer : (bytes : List ℕ) → network_answer bytes ≡ whole_answer line_number (network_part bytes)
-text_answer bytes = text_is_part network_table goes_on line_number (end_of bytes) never_next Start (plain_lines bytes)
+-- the answer to lines that are a text, by its network part
+text_answer : (bytes : List ℕ) (lines : List PlainLine) → lines_answer bytes lines ≡ whole_answer line_number (part_of_lines bytes lines)
+text_answer bytes lines = text_is_part network_table goes_on line_number (end_of bytes) never_next Start lines
 
-pub text_read : (bytes : List ℕ) (f : Network) (n : ℕ) → network_part bytes ≡ Ends f (drop n (plain_lines bytes)) → drop n (plain_lines bytes) ≡ [] → network_answer bytes ≡ Read f
-text_read bytes f n is none = text_answer bytes ∙ ap (whole_answer line_number) (is ∙ ap (Ends f) none)
+pub text_read : (bytes : List ℕ) (lines left : List PlainLine) (f : Network) → part_of_lines bytes lines ≡ Ends f left → left ≡ [] → lines_answer bytes lines ≡ Read f
+text_read bytes lines left f is none = text_answer bytes lines ∙ ap (whole_answer line_number) (is ∙ ap (Ends f) none)
 
-pub text_goes_on : (bytes : List ℕ) (f : Network) (n : ℕ) (line : PlainLine) (rest : List PlainLine) → network_part bytes ≡ Ends f (drop n (plain_lines bytes)) → drop n (plain_lines bytes) ≡ line ∷ rest → network_answer bytes ≡ Malformed line.number
-text_goes_on bytes f n line rest is more = text_answer bytes ∙ ap (whole_answer line_number) (is ∙ ap (Ends f) more)
+pub text_goes_on : (bytes : List ℕ) (lines left : List PlainLine) (f : Network) (line : PlainLine) (rest : List PlainLine) → part_of_lines bytes lines ≡ Ends f left → left ≡ line ∷ rest
+    → lines_answer bytes lines ≡ Malformed line.number
+text_goes_on bytes lines left f line rest is more = text_answer bytes lines ∙ ap (whole_answer line_number) (is ∙ ap (Ends f) more)
 
-pub text_refused : (bytes : List ℕ) (e : TextError) → RefusesPart e (network_part bytes) → Refuses e (network_answer bytes)
-text_refused bytes e is = subst (Refuses e) (sym (text_answer bytes)) (whole_refused line_number e (network_part bytes) is)
+pub text_refused : (bytes : List ℕ) (lines : List PlainLine) (e : TextError) → RefusesPart e (part_of_lines bytes lines) → Refuses e (lines_answer bytes lines)
+text_refused bytes lines e is = subst (Refuses e) (sym (text_answer bytes lines)) (whole_refused line_number e (part_of_lines bytes lines) is)

@@ -257,10 +257,16 @@ abbrev pub network_table : Table Place PlainLine Network (Counted × ℕ)
 network_table = record { start = Start; next = next; whole = whole; limit = limit }
 
 -- ---- texts
--- the answer to a text
-abbrev pub network_answer : List ℕ → Answer Network (Counted × ℕ)
-network_answer bytes = answer network_table line_number (end_of bytes) Start (plain_lines bytes)
+-- the answer to lines of a text, and to a text
+abbrev pub lines_answer : List ℕ → List PlainLine → Answer Network (Counted × ℕ)
+lines_answer bytes lines = answer network_table line_number (end_of bytes) Start lines
 
--- the answer to the network part that begins the lines
+abbrev pub network_answer : List ℕ → Answer Network (Counted × ℕ)
+network_answer bytes = lines_answer bytes (plain_lines bytes)
+
+-- the answer to the network part that lines of a text begin with, and to the one that begins a text
+abbrev pub part_of_lines : List ℕ → List PlainLine → PartAnswer PlainLine Network (Counted × ℕ)
+part_of_lines bytes lines = part_answer network_table goes_on line_number (end_of bytes) Start lines
+
 abbrev pub network_part : List ℕ → PartAnswer PlainLine Network (Counted × ℕ)
-network_part bytes = part_answer network_table goes_on line_number (end_of bytes) Start (plain_lines bytes)
+network_part bytes = part_of_lines bytes (plain_lines bytes)

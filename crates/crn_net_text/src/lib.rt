@@ -4,22 +4,21 @@
 //! table are the printed lines of networks, so a printed network reads back as itself.
 #![tactic(auto)]
 
-ghost use Rattle.std.specs.Prelude.{◌≡◌, ◌≤◌, List, drop, vec_len, IfOk};
+ghost use Rattle.std.specs.Prelude.{◌≡◌, ◌≤◌, List, vec_len, IfOk};
 ghost use Rattle.crn_token.specs.Lines.{AreLinesOf};
 ghost use Rattle.crn_token.specs.Plain.{PlainLine, plain_lines, line_number, end_of};
 ghost use Rattle.crn_grammar.specs.Table.{IsText, PassesNone, IsAnswer};
 ghost use Rattle.crn_grammar.specs.Table as table;
-ghost use Rattle.crn_grammar.specs.Part.{IsPart, IsPartAnswer, Ends, part_end};
-ghost use Rattle.crn_grammar.specs.Reading.{Gives, GivesPart, IsRight, IsRightPart};
+ghost use Rattle.crn_grammar.specs.Part.{IsPart, IsPartAnswer, Ends};
+ghost use Rattle.crn_grammar.specs.Reading.{Gives, GivesPart, GivesUpTo, IsRight, IsRightPart, IsRightUpTo};
 ghost use Rattle.crn_net.specs.Network as plain;
 ghost use Rattle.crn_net.specs.Limits.{IsWithinLimits};
-ghost use Rattle.crn_net_text.specs.Grammar.{IsNetworkText, network_table, goes_on, network_answer, network_part};
-ghost use Rattle.crn_net_text.specs.Reading.{place_of, IsKept};
+ghost use Rattle.crn_net_text.specs.Grammar.{IsNetworkText, network_table, goes_on, network_answer, network_part, part_of_lines};
 
 use crn_grammar::TextError;
 use crn_net::Network;
 use crn_token::words::tokens_of;
-use crn_token::{Lines, token_lines};
+use crn_token::{LineSource, Lines, LinesFrom, TextLines};
 use place::Place;
 use std::alloc::Global;
 
@@ -51,39 +50,57 @@ pub fn read_network_lines(
         → GivesPart (λ n. n) (plain_lines bytes.now) result (Ends net rest) }
     ensures next { IfOk result (λ r. r.1 ≤ vec_len lines.now.lines) }
 {
-    read_part(alloc, bytes, lines)
+    read_from(alloc, bytes, lines)
 }
 
-// The network part, line by line.
-fn read_part(alloc: Global, bytes: &[u8], lines: &Lines) -> Result<(Network, usize), NetTextError>
+// The same, line by line.
+fn read_from(alloc: Global, bytes: &[u8], lines: &Lines) -> Result<(Network, usize), NetTextError>
     requires lines { AreLinesOf bytes.now lines.now }
     ensures answer { GivesPart (λ n. n) (plain_lines bytes.now) result (network_part bytes.now) }
     ensures next { IfOk result (λ r. r.1 ≤ vec_len lines.now.lines) }
 {
-    let mut place = Place::Start;
-    for index in 0..lines.lines.len() {
-        let line = &lines.lines[index];
-        if place.is_whole() {
-            return part_up_to(alloc, place, line.number, index);
-        }
-        place = place.after(alloc, bytes, line.number, tokens_of(line))?;
-    }
-    part_up_to(alloc, place, lines.count + 1, lines.lines.len())
+    let mut source = LinesFrom::new(bytes, lines, 0);
+    let network = read_part(alloc, bytes, &mut source)?;
+    Ok((network, source.index()))
 }
 
-// The network of a part that ends before the line with this number, which has this index.
-fn part_up_to(
+/// The network part that begins at the line that stands next: it ends with the last reaction that its line of reactions counts, and the line after that stands next then.
+pub fn read_network_part<S: LineSource>(
     alloc: Global,
-    place: Place,
-    number: usize,
-    index: usize,
-) -> Result<(Network, usize), NetTextError>
-    requires { IsKept (place_of place) }
-    ensures answer { (lines : List PlainLine) → GivesPart (λ n. n) lines result (part_end network_table number (place_of place) (drop index lines)) }
-    ensures next { IfOk result (λ r. r.1 ≡ index) }
+    bytes: &[u8],
+    source: &mut S,
+) -> Result<Network, NetTextError>
+    requires text { S.text source.old ≡ bytes.now }
+    ensures answer { GivesUpTo (λ n. n) (S.left source.new) result (part_of_lines bytes.now (S.left source.old)) }
+    // Each answer is the right one: the network of the part, the malformed line, or the first limit that is passed.
+    ensures part { IsRightUpTo (λ n. n) (S.left source.new) result (IsPartAnswer network_table goes_on line_number (end_of bytes.now) (S.left source.old)) }
+    // A part that passes no limit is read.
+    ensures read { (net : plain.Network) (rest : List PlainLine) → IsPart network_table goes_on (S.left source.old) net rest
+        → GivesUpTo (λ n. n) (S.left source.new) result (Ends net rest) }
+    ensures same_text { S.text source.new ≡ S.text source.old }
 {
-    let network = place.network(alloc, number)?;
-    Ok((network, index))
+    read_part(alloc, bytes, source)
+}
+
+// The network part, line by line.
+fn read_part<S: LineSource>(
+    alloc: Global,
+    bytes: &[u8],
+    source: &mut S,
+) -> Result<Network, NetTextError>
+    requires text { S.text source.old ≡ bytes.now }
+    ensures answer { GivesUpTo (λ n. n) (S.left source.new) result (part_of_lines bytes.now (S.left source.old)) }
+    ensures same_text { S.text source.new ≡ S.text source.old }
+{
+    let mut place = Place::Start;
+    'lines: while let Some(line) = source.line() {
+        if place.is_whole() {
+            return place.network(alloc, line.number);
+        }
+        place = place.after(alloc, bytes, line.number, tokens_of(line))?;
+        source.advance()?;
+    }
+    place.network(alloc, source.end())
 }
 
 /// The network of a text.
@@ -104,11 +121,10 @@ pub fn read_network(alloc: Global, bytes: &[u8]) -> Result<Network, NetTextError
 fn read_text(alloc: Global, bytes: &[u8]) -> Result<Network, NetTextError>
     ensures { Gives (λ n. n) result (network_answer bytes.now) }
 {
-    let lines = token_lines(alloc, bytes)?;
-    let (network, next) = read_network_lines(alloc, bytes, &lines)?;
-    if next < lines.lines.len() {
-        let line = lines.lines[next].number;
-        return Err(NetTextError::Malformed { line });
+    let mut source = TextLines::new(alloc, bytes)?;
+    let network = read_part(alloc, bytes, &mut source)?;
+    if let Some(line) = source.line() {
+        return Err(NetTextError::Malformed { line: line.number });
     }
     Ok(network)
 }

@@ -13,10 +13,10 @@ pub returns-clause-part : goal.returns-clause-part
 returns-clause-part c =
     let lines = plain_lines c.args.bytes.now in
     let end = end_of c.args.bytes.now in
-    right_part_given (λ (n : Network). n) lines (IsPartAnswer network_table goes_on line_number end lines) c.read_part.result (network_part c.args.bytes.now) c.read_part.ensures.answer
+    right_part_given (λ (n : Network). n) lines (IsPartAnswer network_table goes_on line_number end lines) c.read_from.result (network_part c.args.bytes.now) c.read_from.ensures.answer
     (part_answer_is network_table goes_on line_number end network_can_end lines)
 
 pub returns-clause-read : goal.returns-clause-read
 returns-clause-read c net rest is =
     let lines = plain_lines c.args.bytes.now in
-    subst (GivesPart (λ (n : Network). n) lines c.read_part.result) (part_is network_table goes_on line_number (end_of c.args.bytes.now) lines net rest is) c.read_part.ensures.answer
+    subst (GivesPart (λ (n : Network). n) lines c.read_from.result) (part_is network_table goes_on line_number (end_of c.args.bytes.now) lines net rest is) c.read_from.ensures.answer

@@ -8,9 +8,12 @@ use Rattle.crn_gated.proofs.job.read_text.Goals as goal
 
 pub returns-clause-answer : goal.returns-clause-answer
 returns-clause-answer c =
-    subst (Gives gated_job_of c.read_rest.result) (sym (job_read c.args.bytes.now (gated_of c.in_ok-function.function) c.in_ok-function.next c.in_ok-function.ensures.answer)) c.read_rest.ensures.answer
+    subst (Gives gated_job_of c.read_rest.result)
+    (sym (job_read c.args.bytes.now c.in_ok-source.source.left c.read_part.new.source.left (gated_of c.in_ok-function.function) c.in_ok-source.ensures.left c.in_ok-function.ensures.answer))
+    c.read_rest.ensures.answer
 
 pub returns-in_err-function-clause-answer : goal.returns-in_err-function-clause-answer
 returns-in_err-function-clause-answer c =
     let e = c.in_err-function.field-0.0 in
-    passed_on gated_job_of c.from_residual-in_err-function.result e (gated_job_answer c.args.bytes.now) c.from_residual-in_err-function.ensures.1 (job_refused c.args.bytes.now e c.in_err-function.ensures.answer)
+    passed_on gated_job_of c.from_residual-in_err-function.result e (gated_job_answer c.args.bytes.now) c.from_residual-in_err-function.ensures.1
+    (job_refused c.args.bytes.now c.in_ok-source.source.left e c.in_ok-source.ensures.left c.in_err-function.ensures.answer)

@@ -13,10 +13,10 @@ pub returns-clause-part : goal.returns-clause-part
 returns-clause-part c =
     let lines = plain_lines c.args.bytes.now in
     let end = end_of c.args.bytes.now in
-    right_part_given gated_of lines (IsPartAnswer gated_table goes_on line_number end lines) c.read_part.result (gated_part c.args.bytes.now) c.read_part.ensures.answer
+    right_part_given gated_of lines (IsPartAnswer gated_table goes_on line_number end lines) c.read_from.result (gated_part c.args.bytes.now) c.read_from.ensures.answer
     (part_answer_is gated_table goes_on line_number end gated_can_end lines)
 
 pub returns-clause-read : goal.returns-clause-read
 returns-clause-read c f rest is =
     let lines = plain_lines c.args.bytes.now in
-    subst (GivesPart gated_of lines c.read_part.result) (part_is gated_table goes_on line_number (end_of c.args.bytes.now) lines f rest is) c.read_part.ensures.answer
+    subst (GivesPart gated_of lines c.read_from.result) (part_is gated_table goes_on line_number (end_of c.args.bytes.now) lines f rest is) c.read_from.ensures.answer
