@@ -13,8 +13,8 @@ ghost use Rattle.crn_form_text.specs.Written.{are_none, sign_items, next_items, 
 use crn_formula::Formula;
 use crn_fraction::Frac;
 use crn_linear::Form;
+use crn_token::print_number;
 use std::alloc::AllocError;
-use std::fmt::Write;
 
 fn is_below(value: Frac) -> bool
     ensures { result ≡ is_below value }
@@ -48,11 +48,12 @@ fn write_size(out: &mut String, value: Frac) -> Result<(), AllocError>
 {
     let size = value.num().unsigned_abs();
     let below = value.den();
+    print_number(out, size)?;
     if below == 1 {
-        write!(out, "{size}")
-    } else {
-        write!(out, "{size}/{below}")
+        return Ok(());
     }
+    out.push('/')?;
+    print_number(out, below.unsigned_abs())
 }
 
 /// Appends a fraction to a text: `n` or `n/d` in lowest terms, with `-` before it where it is negative.
@@ -91,7 +92,8 @@ fn write_variable(
     if !has_size_1(value) {
         write_size(out, value)?;
     }
-    write!(out, "x{}", column + 1)
+    out.push('x')?;
+    print_number(out, column as u64 + 1)
 }
 
 // The term of a variable, if its coefficient is not 0. Tells whether there is still no term.
@@ -190,7 +192,8 @@ pub fn print_formula(
             out.push(')')
         }
         Formula::Add(a, b) | Formula::Sub(a, b) | Formula::Min(a, b) | Formula::Max(a, b) => {
-            write!(out, "{}(", word_of(formula))?;
+            out.push_str(word_of(formula))?;
+            out.push('(')?;
             print_formula(out, a, variables)?;
             out.push_str(", ")?;
             print_formula(out, b, variables)?;
