@@ -6,7 +6,7 @@ ghost use Rattle.crn_fraction.specs.Rational.{is_zero_ℚ};
 ghost use Rattle.crn_fraction.specs.Frac.{IsFrac};
 ghost use Rattle.crn_linear.specs.Forms.{entry_of};
 ghost use Rattle.crn_formula.specs.Views.{plain_of};
-ghost use Rattle.crn_form_text.specs.Grammar.{numeral_tokens, minus_before};
+ghost use Rattle.crn_form_text.specs.Grammar.{name_tokens, numeral_tokens, minus_before};
 ghost use Rattle.crn_form_text.specs.Printing.{numeral_of, is_below, has_size_1, variable_term, constant_term, variable_terms, closed_up, terms_items, form_items, fraction_items, formula_items, AreFracs, AreFracsOf, FitsText};
 ghost use Rattle.crn_form_text.specs.Written.{are_none, sign_items, next_items, variable_items, constant_items, word_of};
 
@@ -78,6 +78,15 @@ fn write_sign(out: &mut String, first: bool, negative: bool) -> Result<(), Alloc
     }
 }
 
+// A variable, `x` with its number, which counts from 1.
+fn write_name(out: &mut String, column: usize) -> Result<(), AllocError>
+    requires { column ≤ 8 }
+    ensures { OnOk result (string_bytes out.new ≡ string_bytes out.old ++ spelled (closed_up (name_tokens column))) }
+{
+    out.push('x')?;
+    print_number(out, column as u64 + 1)
+}
+
 // The term of a variable. A coefficient of size 1 is not written.
 fn write_variable(
     out: &mut String,
@@ -92,8 +101,7 @@ fn write_variable(
     if !has_size_1(value) {
         write_size(out, value)?;
     }
-    out.push('x')?;
-    print_number(out, column as u64 + 1)
+    write_name(out, column)
 }
 
 // The term of a variable, if its coefficient is not 0. Tells whether there is still no term.
