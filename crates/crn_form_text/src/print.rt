@@ -6,15 +6,15 @@ ghost use Rattle.crn_fraction.specs.Rational.{is_zero_ℚ};
 ghost use Rattle.crn_fraction.specs.Frac.{IsFrac};
 ghost use Rattle.crn_linear.specs.Forms.{entry_of};
 ghost use Rattle.crn_formula.specs.Views.{plain_of};
-ghost use Rattle.crn_form_text.specs.Grammar.{numeral_tokens, minus_before};
+ghost use Rattle.crn_form_text.specs.Grammar.{name_tokens, numeral_tokens, minus_before};
 ghost use Rattle.crn_form_text.specs.Printing.{numeral_of, is_below, has_size_1, variable_term, constant_term, variable_terms, closed_up, terms_items, form_items, fraction_items, formula_items, AreFracs, AreFracsOf, FitsText};
 ghost use Rattle.crn_form_text.specs.Written.{are_none, sign_items, next_items, variable_items, constant_items, word_of};
 
 use crn_formula::Formula;
 use crn_fraction::Frac;
 use crn_linear::Form;
+use crn_token::print_number;
 use std::alloc::AllocError;
-use std::fmt::Write;
 
 fn is_below(value: Frac) -> bool
     ensures { result ≡ is_below value }
@@ -48,11 +48,12 @@ fn write_size(out: &mut String, value: Frac) -> Result<(), AllocError>
 {
     let size = value.num().unsigned_abs();
     let below = value.den();
+    print_number(out, size)?;
     if below == 1 {
-        write!(out, "{size}")
-    } else {
-        write!(out, "{size}/{below}")
+        return Ok(());
     }
+    out.push('/')?;
+    print_number(out, below.unsigned_abs())
 }
 
 /// Appends a fraction to a text: `n` or `n/d` in lowest terms, with `-` before it where it is negative.
@@ -77,6 +78,15 @@ fn write_sign(out: &mut String, first: bool, negative: bool) -> Result<(), Alloc
     }
 }
 
+// A variable, `x` with its number, which counts from 1.
+fn write_name(out: &mut String, column: usize) -> Result<(), AllocError>
+    requires { column ≤ 8 }
+    ensures { OnOk result (string_bytes out.new ≡ string_bytes out.old ++ spelled (closed_up (name_tokens column))) }
+{
+    out.push('x')?;
+    print_number(out, column as u64 + 1)
+}
+
 // The term of a variable. A coefficient of size 1 is not written.
 fn write_variable(
     out: &mut String,
@@ -91,7 +101,7 @@ fn write_variable(
     if !has_size_1(value) {
         write_size(out, value)?;
     }
-    write!(out, "x{}", column + 1)
+    write_name(out, column)
 }
 
 // The term of a variable, if its coefficient is not 0. Tells whether there is still no term.
@@ -190,7 +200,8 @@ pub fn print_formula(
             out.push(')')
         }
         Formula::Add(a, b) | Formula::Sub(a, b) | Formula::Min(a, b) | Formula::Max(a, b) => {
-            write!(out, "{}(", word_of(formula))?;
+            out.push_str(word_of(formula))?;
+            out.push('(')?;
             print_formula(out, a, variables)?;
             out.push_str(", ")?;
             print_formula(out, b, variables)?;

@@ -8,9 +8,10 @@ ghost use Rattle.crn_token.specs.Plain.{plain_lines};
 ghost use Rattle.crn_token.specs.Printed.{spelled, printed};
 ghost use Rattle.crn_grammar.specs.Table.{IsText, PassesNone};
 ghost use Rattle.crn_net_text.specs.Grammar.{network_table};
-ghost use Rattle.crn_net_text.specs.NetworkText.{IsSmall, IsSmallReaction, HasSmallCounts, part_items, next_items, side_items, gives_items, reaction_items, ends_items, context_lines, header_lines, input_line, output_line, ends_lines, reaction_lines, network_text};
+ghost use Rattle.crn_net_text.specs.NetworkText.{IsSmall, IsSmallReaction, HasSmallCounts, species_items, part_items, next_items, side_items, gives_items, reaction_items, ends_items, context_lines, header_lines, input_line, output_line, ends_lines, reaction_lines, network_text};
 
 use crn_net::{Ends, Network, Part, Rails, Reaction};
+use crn_token::print_number;
 use std::alloc::{AllocError, Global};
 use std::fmt::Write;
 
@@ -48,13 +49,29 @@ fn write_header(out: &mut String, network: &Network) -> Result<(), AllocError>
     write!(out, "crn {version} {rails}\nspecies {species}\n")
 }
 
+// `Sa`.
+fn write_species(out: &mut String, species: u32) -> Result<(), AllocError>
+    ensures { OnOk result (string_bytes out.new ≡ string_bytes out.old ++ spelled (species_items species)) }
+{
+    out.push('S')?;
+    print_number(out, u64::from(species))
+}
+
 // ` Sa Sb` of a pair, and ` Sa` of one.
 fn write_ends(out: &mut String, ends: Ends) -> Result<(), AllocError>
     ensures { OnOk result (string_bytes out.new ≡ string_bytes out.old ++ spelled (ends_items ends)) }
 {
     match ends {
-        Ends::Pair(a, b) => write!(out, " S{a} S{b}"),
-        Ends::One(a) => write!(out, " S{a}"),
+        Ends::Pair(a, b) => {
+            out.push(' ')?;
+            write_species(out, a)?;
+            out.push(' ')?;
+            write_species(out, b)
+        }
+        Ends::One(a) => {
+            out.push(' ')?;
+            write_species(out, a)
+        }
     }
 }
 
@@ -109,9 +126,10 @@ fn write_part(out: &mut String, part: Part) -> Result<(), AllocError>
 {
     let Part { species, count } = part;
     if count != 1 {
-        write!(out, "{count} ")?;
+        print_number(out, count.unsigned_abs())?;
+        out.push(' ')?;
     }
-    write!(out, "S{species}")
+    write_species(out, species)
 }
 
 // A part, with ` + ` before it where it is not the first.
