@@ -39,7 +39,7 @@ multipliers-are : (k : Kept) (sources : ℕ) (ms : List (ℕ × ℤ)) (g : ℕ) 
 unfolding reduced
 multipliers-are k sources ms g d e = sym (over-spread g 0 sources ms) ∙ ap₂ over d (sym e)
 
-take_padded : (columns : ℕ) (xs places : List ℤ) → length xs ≡ columns → places ≡ padded (pos 0) xs → take columns places ≡ xs
+pub take_padded : (columns : ℕ) (xs places : List ℤ) → length xs ≡ columns → places ≡ padded (pos 0) xs → take columns places ≡ xs
 take_padded columns xs places long is = ap₂ take (sym long) is ∙ take-append_seam xs (replicate (9 - length xs) (pos 0))
 
 module _ (k : Kept) (columns sources : ℕ) (ms : List (ℕ × ℤ)) (g : ℕ) (ascend : Ascend 0 sources ms) (long : length k.row.entries ≡ columns)

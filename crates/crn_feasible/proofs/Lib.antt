@@ -33,3 +33,8 @@ pub mod PointStep
 pub mod NextFits
 pub mod Fits
 pub mod Examples
+pub mod Signs
+pub mod Own
+pub mod Multiples
+pub mod Dropping
+pub mod Refuted

@@ -57,7 +57,7 @@ map_within : (a : ℤ) (xs : List ℤ) (u n : ℕ) → unsigned_abs a ≤ u → 
 map_within a [] u n h k = tt
 map_within a (x ∷ xs) u n h k = (wider (u * n) (a *ℤ x) (times_within a x u n h k.0), map_within a xs u n h k.1)
 
-mixed_within : (a : ℤ) (xs : List ℤ) (b : ℤ) (ys : List ℤ) (u n : ℕ) → unsigned_abs a ≤ u → unsigned_abs b ≤ u → Each (IsWithin n) xs → Each (IsWithin n) ys → Each (IsWithin (u * n + u * n)) (mixed a xs b ys)
+pub mixed_within : (a : ℤ) (xs : List ℤ) (b : ℤ) (ys : List ℤ) (u n : ℕ) → unsigned_abs a ≤ u → unsigned_abs b ≤ u → Each (IsWithin n) xs → Each (IsWithin n) ys → Each (IsWithin (u * n + u * n)) (mixed a xs b ys)
 mixed_within a [] b ys u n ha hb h k = map_within b ys u n hb k
 mixed_within a (x ∷ xs) b [] u n ha hb h k = map_within a (x ∷ xs) u n ha h
 mixed_within a (x ∷ xs) b (y ∷ ys) u n ha hb h k = (
@@ -92,7 +92,7 @@ all_within : (n : ℕ) (xs : List ℤ) → n ≤ 2 ^ 59 → Each (IsWithin n) xs
 all_within n [] h k = refl
 all_within n (x ∷ xs) h k = rw (fits_within n x h k.0) (all_within n xs h k.1)
 
-two_within : (n m : ℕ) (xs ys : List ℤ) → n ≤ 2 ^ 59 → m ≤ 2 ^ 59 → Each (IsWithin n) xs → Each (IsWithin m) ys → list_all fits (xs ++ ys) ≡ true
+pub two_within : (n m : ℕ) (xs ys : List ℤ) → n ≤ 2 ^ 59 → m ≤ 2 ^ 59 → Each (IsWithin n) xs → Each (IsWithin m) ys → list_all fits (xs ++ ys) ≡ true
 two_within n m [] ys h k a b = all_within m ys k b
 two_within n m (x ∷ xs) ys h k a b = rw (fits_within n x h a.0) (two_within n m xs ys h k a.1 b)
 

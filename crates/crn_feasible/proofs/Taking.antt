@@ -102,7 +102,7 @@ pub zeros_by_divisor : (xs : List ℤ) → Divides 0 xs → Each (λ x. x ≡ po
 zeros_by_divisor [] h = tt
 zeros_by_divisor (x ∷ xs) h = (abs_zero x (eq-zero_of_zero-dvd h.0), zeros_by_divisor xs h.1)
 
-over_zeros : (g : ℕ) (xs : List ℤ) → Each (λ x. x ≡ pos 0) xs → Each (λ x. x ≡ pos 0) (over g xs)
+pub over_zeros : (g : ℕ) (xs : List ℤ) → Each (λ x. x ≡ pos 0) xs → Each (λ x. x ≡ pos 0) (over g xs)
 over_zeros g [] h = tt
 over_zeros g (x ∷ xs) h = (ap (λ y. int_div y (pos g)) h.0 ∙ ap pos (zero-div g), over_zeros g xs h.1)
 

@@ -5,7 +5,7 @@ use Rattle.crn_feasible.specs.declared.Verdict.{Verdict}
 use Rattle.crn_feasible.specs.declared.Verdict.TheVariants.{Found, Refuted}
 use Rattle.crn_feasible.specs.declared.SolveError.{SolveError}
 use Rattle.crn_feasible.specs.declared.SolveError.TheVariants.{TooBig, TooManyRows, Memory}
-use Rattle.crn_feasible.specs.Elimination.{Stop, refuted, passes, too_many}
+use Rattle.crn_feasible.specs.Elimination.{Stop, refuted, passes, too_many, elimination}
 
 -- what elimination answers, want of memory aside
 abbrev pub Answers : Result Verdict SolveError → Result (List ℤ) Stop → Type 0
@@ -24,3 +24,7 @@ IsTrueOf s (Refuted c) = IsCertificate s c
 abbrev pub IsLong : System → Verdict → Type 0
 IsLong s (Found p) = length p ≡ s.columns
 IsLong s (Refuted c) = Unit {0}
+
+-- elimination refutes the system
+abbrev pub IsRefuted : System → Type 0
+IsRefuted s = (c : List ℤ) × (elimination s ≡ Err (refuted c))

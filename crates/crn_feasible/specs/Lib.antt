@@ -3,3 +3,4 @@ pub mod Steps
 pub mod Chosen
 pub mod Answers
 pub mod Sparse
+pub mod Signs

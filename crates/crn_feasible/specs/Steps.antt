@@ -1,5 +1,5 @@
 -- What the steps of the code answer, in the words of elimination.
-use Rattle.std.specs.Prelude.{◌≡◌, ℕ, ◌≤◌, ◌-◌, Bool, true, false, cond, ℤ, pos, int_lt, slice_index_or, List, ◌++◌, length, map, take, Result, Ok, Err}
+use Rattle.std.specs.Prelude.{◌≡◌, ℕ, ◌≤◌, ◌-◌, ◌^◌, unsigned_abs, Bool, true, false, cond, ℤ, pos, int_lt, slice_index_or, List, ◌++◌, length, map, take, Result, Ok, Err}
 use Rattle.std.specs.List.{All, list_all}
 use Rattle.crn_linear.specs.Rows.{Row, AreSmall}
 use Rattle.crn_linear.specs.Views.{padded}
@@ -44,6 +44,18 @@ pub record IsMade (columns rows : ℕ) (entries : List ℤ) (ms : List (ℕ × �
 
 abbrev pub IsKeptRow : (columns rows : ℕ) → KeptRow → Type 0
 IsKeptRow columns rows r = IsMade columns rows r.entries r.multipliers.items
+
+-- all numbers of the row are at most 2^29 in size
+pub record IsShort (columns : ℕ) (r : KeptRow) : Type 0 where
+  pub entries : All (λ z. unsigned_abs z ≤ 2 ^ 29) (take columns r.entries)
+  pub multipliers : All (λ m. unsigned_abs m.1 ≤ 2 ^ 29) r.multipliers.items
+
+-- and so are those of two rows and of the numbers that they are taken times
+pub record AreShort (columns : ℕ) (a : ℤ) (p : KeptRow) (b : ℤ) (n : KeptRow) : Type 0 where
+  pub first_times : unsigned_abs a ≤ 2 ^ 29
+  pub first : IsShort columns p
+  pub second_times : unsigned_abs b ≤ 2 ^ 29
+  pub second : IsShort columns n
 
 -- the entry at a place is below 0
 abbrev pub is_negative_at : ℕ → KeptRow → Bool

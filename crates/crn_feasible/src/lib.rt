@@ -4,10 +4,10 @@
 //! is told exactly where elimination passes it. `laws` says for which systems no limit comes.
 #![tactic(auto)]
 
-ghost use Rattle.std.specs.Prelude.{◌≡◌, length, Ok, IfOk};
-ghost use Rattle.crn_farkas.specs.Systems.{IsRectangular, IsWholePoint};
+ghost use Rattle.std.specs.Prelude.{◌≡◌, length, Ok, IfOk, IsTrue};
+ghost use Rattle.crn_farkas.specs.Systems.{IsRectangular, IsWholePoint, HasNoPoint};
 ghost use Rattle.crn_feasible.specs.Elimination.{elimination};
-ghost use Rattle.crn_feasible.specs.Answers.{Answers, IsTrueOf, IsLong};
+ghost use Rattle.crn_feasible.specs.Answers.{Answers, IsTrueOf, IsLong, IsRefuted};
 ghost use Rattle.crn_feasible.specs.Steps.{Goes};
 
 use crn_farkas::{Certificate, System, holds};
@@ -15,12 +15,17 @@ use crn_linear::Point;
 use rows::Ending;
 use std::alloc::Global;
 use thiserror::Error;
+use two_columns::{are_short, excludes_points};
 
 pub mod laws;
 mod multipliers;
 mod numbers;
 mod rows;
+mod two_columns;
 mod values;
+
+// The most rows of a system with two columns whose elimination keeps few rows.
+const MANY_ROWS: usize = 128;
 
 /// What is known of a system.
 #[derive(Debug, Drop)]
@@ -72,6 +77,19 @@ pub fn solve_near(alloc: Global, system: &System, hint: &Point) -> Result<Verdic
         return Ok(Verdict::Found(*hint));
     }
     solve(alloc, system)
+}
+
+/// Whether it is soon seen that elimination refutes the system, without its certificate: of two columns, at most 128 rows and entries of at most 2^14 in
+/// size, where it meets no limit. `solve` tells of any system.
+pub fn is_refuted(system: &System) -> bool
+    ensures own { IsTrue result → IsRefuted system.now.system }
+    ensures excludes { IsTrue result → HasNoPoint system.now.system }
+{
+    if system.columns() != 2 {
+        return false;
+    }
+    let rows = system.rows();
+    rows.len() <= MANY_ROWS && are_short(rows) && excludes_points(rows)
 }
 
 fn eliminate(alloc: Global, system: &System) -> Result<Point, Ending>

@@ -40,6 +40,29 @@ pub fn mix(a: i64, x: i64, b: i64, y: i64) -> i128
     left + right
 }
 
+/// The sum of two products of short numbers.
+pub fn short_mix(a: i64, x: i64, b: i64, y: i64) -> i64
+    requires a_short { unsigned_abs a ≤ 2 ^ 29 }
+    requires x_short { unsigned_abs x ≤ 2 ^ 29 }
+    requires b_short { unsigned_abs b ≤ 2 ^ 29 }
+    requires y_short { unsigned_abs y ≤ 2 ^ 29 }
+    ensures value { result ≡ a *ℤ x +ℤ b *ℤ y }
+    ensures small { IsSmall result }
+{
+    let left = short_product(a, x);
+    let right = short_product(b, y);
+    left + right
+}
+
+fn short_product(a: i64, b: i64) -> i64
+    requires left { unsigned_abs a ≤ 2 ^ 29 }
+    requires right { unsigned_abs b ≤ 2 ^ 29 }
+    ensures value { result ≡ a *ℤ b }
+    ensures small { unsigned_abs result ≤ 2 ^ 58 }
+{
+    a * b
+}
+
 /// The sum of the products.
 pub fn dot(xs: &[i64], ys: &[i64]) -> i128
     requires first { AreSmall xs.now }

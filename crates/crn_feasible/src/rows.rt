@@ -1,6 +1,6 @@
 //! The rows that elimination makes, and the lists that it takes them into.
 
-ghost use Rattle.std.specs.Prelude.{◌≡◌, ◌≤◌, ◌<◌, ◌^◌, false, pos, [], length, map, OnOk, IfOk, IfErr, MatchOption};
+ghost use Rattle.std.specs.Prelude.{◌≡◌, ◌≤◌, ◌<◌, ◌^◌, false, pos, [], unsigned_abs, Ok, length, map, IsTrue, OnOk, IfOk, MatchOption};
 ghost use Rattle.std.specs.List.{All, list_all, filter, flat_map};
 ghost use Rattle.std.specs.Ordering.{int_eq};
 ghost use Rattle.crn_linear.specs.Rows.{IsSmall, AreSmall};
@@ -8,11 +8,11 @@ ghost use Rattle.crn_linear.specs.Views.{HasColumns, padded};
 ghost use Rattle.crn_farkas.specs.Mixtures.{mixed};
 ghost use Rattle.crn_feasible.specs.Elimination.{fits, kept_with, take_row, take_rows, zeros, positives, negatives, combined, without, started};
 ghost use Rattle.crn_linear.specs.Cleared.{over};
-ghost use Rattle.crn_feasible.specs.Steps.{Goes, Combines, Takes, Certifies, kept, kept_of, list_of, direction_of, first_row, mixed_rows, is_negative_at, IsMade, IsKeptRow, IsList, HasShape};
+ghost use Rattle.crn_feasible.specs.Steps.{Goes, Combines, Takes, Certifies, kept, kept_of, list_of, direction_of, first_row, mixed_rows, is_negative_at, IsMade, IsKeptRow, IsShort, AreShort, IsList, HasShape};
 ghost use Rattle.crn_feasible.specs.Sparse.{spread, IsSparse};
 
 use crate::multipliers::{divide_multipliers, mix_multipliers, spread};
-use crate::numbers::{common_of, common_with, mix, over_divisor};
+use crate::numbers::{common_of, common_with, mix, over_divisor, short_mix};
 use crn_farkas::{Certificate, System};
 use crn_linear::{Row, Strength, without_divisor};
 use indexmap::IndexSet;
@@ -20,6 +20,9 @@ use std::alloc::{AllocError, Global};
 
 // The greatest number of rows in a list.
 const MAX_ROWS: usize = 4096;
+
+// The greatest size of a number of a short row: sums of two products of such fit 64 bits.
+const SHORT: u64 = 1 << 29;
 
 /// How elimination ends before it has a point.
 #[derive(Drop)]
@@ -87,6 +90,56 @@ fn direction_of(entries: &[i64], strict: bool) -> Direction
         entries: without_divisor(entries),
         strict,
     }
+}
+
+// Whether all numbers of each row are at most 2^29 in size.
+fn are_short(rows: &[KeptRow], columns: usize) -> bool
+    requires few { columns ≤ 9 }
+    ensures { IsTrue result → All (IsShort columns) rows.now }
+{
+    for row in rows {
+        if !is_short(row, columns) {
+            return false;
+        }
+    }
+    true
+}
+
+fn is_short(row: &KeptRow, columns: usize) -> bool
+    requires few { columns ≤ 9 }
+    ensures { IsTrue result → IsShort columns row.now }
+{
+    have_short_entries(&row.entries[..columns]) && have_short_multipliers(&row.multipliers)
+}
+
+fn have_short_entries(entries: &[i64]) -> bool
+    ensures { IsTrue result → All (λ z. unsigned_abs z ≤ 2 ^ 29) entries.now }
+{
+    entries.iter().all(|entry| entry.unsigned_abs() <= SHORT)
+}
+
+fn have_short_multipliers(multipliers: &[(usize, i64)]) -> bool
+    ensures { IsTrue result → All (λ m. unsigned_abs m.1 ≤ 2 ^ 29) multipliers.now }
+{
+    multipliers.iter().all(|multiplier| multiplier.1.unsigned_abs() <= SHORT)
+}
+
+// A times the first numbers plus b times the second, all short, and 0 past the last.
+fn short_sums(a: i64, p: &[i64], b: i64, n: &[i64]) -> [i64; 9]
+    requires a_short { unsigned_abs a ≤ 2 ^ 29 }
+    requires b_short { unsigned_abs b ≤ 2 ^ 29 }
+    requires first { All (λ z. unsigned_abs z ≤ 2 ^ 29) p.now }
+    requires second { All (λ z. unsigned_abs z ≤ 2 ^ 29) n.now }
+    requires same { length p.now ≡ length n.now }
+    requires few { length p.now ≤ 9 }
+    ensures sums { result ≡ padded (pos 0) (mixed a p.now b n.now) }
+    ensures small { AreSmall (mixed a p.now b n.now) }
+{
+    let mut sums = [0i64; 9];
+    for i in 0..p.len() {
+        sums[i] = short_mix(a, p[i], b, n[i]);
+    }
+    sums
 }
 
 // The entries of a times the first row plus b times the second, over a divisor, where each is then small.
@@ -179,6 +232,17 @@ impl RowList {
         Ok(())
     }
 
+    // Takes a row of the system, which is once itself.
+    fn take_own(&mut self, alloc: Global, row: &Row, index: usize) -> Result<(), Ending>
+        requires columns { length row.now.entries ≡ self.old.columns }
+        requires index { index < self.old.sources }
+        requires list { IsList self.old }
+        ensures taken { Takes result (take_row (list_of self.old) (first_row row.now index self.old.sources)) self.new }
+        ensures list { OnOk result (IsList self.new × HasShape self.new self.old.columns self.old.sources) }
+    {
+        self.take(alloc, entries_of(row), &[(index, 1)], is_strict(row))
+    }
+
     // The entries of a times the first row plus b times the second, over the greatest common divisor of all their numbers. The multipliers are written to the buffers.
     fn combine(
         &self,
@@ -209,7 +273,25 @@ impl RowList {
         Ok(entries)
     }
 
-    // Takes a times the first row plus b times the second.
+    // Whether a times the first row plus b times the second adds nothing to the list: it is a weak row of zeros, or one of its direction and strength
+    // is there.
+    fn drops(&self, a: i64, p: &KeptRow, b: i64, n: &KeptRow) -> bool
+        requires short { AreShort self.now.columns a p.now b n.now }
+        requires first { IsKeptRow self.now.columns self.now.sources p.now }
+        requires second { IsKeptRow self.now.columns self.now.sources n.now }
+        requires list { IsList self.now }
+        ensures { IsTrue result → take_row (list_of self.now) (mixed_rows a (kept_of self.now.columns self.now.sources p.now) b (kept_of self.now.columns self.now.sources n.now)) ≡ Ok (list_of self.now) }
+    {
+        let sums = short_sums(a, &p.entries[..self.columns], b, &n.entries[..self.columns]);
+        let used = &sums[..self.columns];
+        let strict = p.strict || n.strict;
+        if is_zero(used) {
+            return !strict;
+        }
+        self.seen.contains(&direction_of(used, strict))
+    }
+
+    // Takes a times the first row plus b times the second. Where the rows are short, it is told first whether that adds nothing.
     fn take_mixed(
         &mut self,
         alloc: Global,
@@ -218,36 +300,23 @@ impl RowList {
         p: &KeptRow,
         b: i64,
         n: &KeptRow,
+        short: bool,
     ) -> Result<(), Ending>
         requires a_small { IsSmall a }
         requires b_small { IsSmall b }
         requires first { IsKeptRow self.old.columns self.old.sources p.now }
         requires second { IsKeptRow self.old.columns self.old.sources n.now }
+        requires short { IsTrue short → AreShort self.old.columns a p.now b n.now }
         requires list { IsList self.old }
         ensures taken { Takes result (take_row (list_of self.old) (mixed_rows a (kept_of self.old.columns self.old.sources p.now) b (kept_of self.old.columns self.old.sources n.now))) self.new }
         ensures list { OnOk result (IsList self.new × HasShape self.new self.old.columns self.old.sources) }
     {
+        if short && self.drops(a, p, b, n) {
+            return Ok(());
+        }
         let entries = self.combine(buffers, a, p, b, n)?;
         self.take(alloc, entries, &buffers.divided, p.strict || n.strict)
     }
-}
-
-// The row with multiplier 1 for itself, among so many.
-fn first_row(alloc: Global, row: &Row, index: usize, count: usize) -> Result<KeptRow, Ending>
-    requires { index < count }
-    ensures row { IfOk result (λ r. kept_of (length row.now.entries) count r ≡ first_row row.now index count) }
-    ensures kept { IfOk result (IsKeptRow (length row.now.entries) count) }
-    ensures ends { IfErr result (λ e. e ≡ Ending.Memory) }
-{
-    let mut multipliers = Vec::new(alloc);
-    if multipliers.push((index, 1)).is_err() {
-        return Err(Ending::Memory);
-    }
-    Ok(KeptRow {
-        entries: entries_of(row),
-        multipliers,
-        strict: row.strength() == Strength::Strict,
-    })
 }
 
 // The entries, and 0 past the last.
@@ -263,6 +332,13 @@ fn entries_of(row: &Row) -> [i64; 9]
     places
 }
 
+/// Whether the row is strict.
+pub fn is_strict(row: &Row) -> bool
+    ensures { result ≡ row.now.strict }
+{
+    row.strength() == Strength::Strict
+}
+
 /// The rows of the system, taken into the first list.
 pub fn start(alloc: Global, system: &System) -> Result<RowList, Ending>
     ensures taken { Goes result list_of (take_rows [] (started 0 system.now.system.rows)) }
@@ -271,10 +347,8 @@ pub fn start(alloc: Global, system: &System) -> Result<RowList, Ending>
 {
     let rows = system.rows();
     let mut list = RowList::new(alloc, system.columns(), rows.len());
-    let mut buffers = Buffers::new(alloc);
     for i in 0..rows.len() {
-        let row = first_row(alloc, &rows[i], i, rows.len())?;
-        list.take_mixed(alloc, &mut buffers, 1, &row, 0, &row)?;
+        list.take_own(alloc, &rows[i], i)?;
     }
     Ok(list)
 }
@@ -309,7 +383,7 @@ fn take_zeros(
 {
     for row in rows {
         if row.entries[v] == 0 {
-            rest.take_mixed(alloc, buffers, 1, row, 0, row)?;
+            rest.take_mixed(alloc, buffers, 1, row, 0, row, false)?;
         }
     }
     Ok(())
@@ -328,12 +402,13 @@ fn take_pairs(
     ensures taken { Takes result (take_rows (list_of rest.old) (flat_map (λ p. map (combined v p) (negatives v (map (kept_of rest.old.columns rest.old.sources) rows.now))) (positives v (map (kept_of rest.old.columns rest.old.sources) rows.now)))) rest.new }
     ensures list { OnOk result (IsList rest.new × HasShape rest.new rest.old.columns rest.old.sources) }
 {
+    let short = are_short(rows, rest.columns);
     let Ok(negatives) = negatives_of(alloc, rows, v) else {
         return Err(Ending::Memory);
     };
     for row in rows {
         if row.entries[v] > 0 {
-            take_pairs_of(alloc, rest, buffers, row, &negatives, v)?;
+            take_pairs_of(alloc, rest, buffers, row, &negatives, v, short)?;
         }
     }
     Ok(())
@@ -361,17 +436,20 @@ fn take_pairs_of(
     p: &KeptRow,
     negatives: &[&KeptRow],
     v: usize,
+    short: bool,
 ) -> Result<(), Ending>
     requires column { v < rest.old.columns }
     requires list { IsList rest.old }
     requires rows { All (λ r. IsKeptRow rest.old.columns rest.old.sources r.now) negatives.now }
     requires row { IsKeptRow rest.old.columns rest.old.sources p.now }
+    requires short_rows { IsTrue short → All (λ r. IsShort rest.old.columns r.now) negatives.now }
+    requires short_row { IsTrue short → IsShort rest.old.columns p.now }
     ensures taken { Takes result (take_rows (list_of rest.old) (map (λ r. combined v (kept_of rest.old.columns rest.old.sources p.now) (kept_of rest.old.columns rest.old.sources r.now)) negatives.now)) rest.new }
     ensures list { OnOk result (IsList rest.new × HasShape rest.new rest.old.columns rest.old.sources) }
 {
     let lead = p.entries[v];
     for row in negatives {
-        rest.take_mixed(alloc, buffers, -row.entries[v], p, lead, row)?;
+        rest.take_mixed(alloc, buffers, -row.entries[v], p, lead, row, short)?;
     }
     Ok(())
 }

@@ -7,7 +7,7 @@ use Rattle.crn_linear.specs.Rows.{IsSmall}
 use Rattle.crn_feasible.specs.declared.rows.RowList.{RowList}
 use Rattle.crn_feasible.specs.declared.rows.KeptRow.{KeptRow}
 use Rattle.crn_feasible.specs.Elimination.{Kept, entry, combined, negatives, take_rows}
-use Rattle.crn_feasible.specs.Steps.{Ends, kept_of, list_of, IsList, HasShape, IsKeptRow}
+use Rattle.crn_feasible.specs.Steps.{Ends, kept_of, list_of, IsList, HasShape, IsKeptRow, IsShort}
 use Rattle.crn_feasible.proofs.Exits.{ends_takes}
 use Rattle.crn_feasible.proofs.Turns.{Taken, step, stop, done, ends_same, entry_there, above_test, not_above_test, kept_at, small_at}
 use Rattle.crn_feasible.proofs.Parts.{pairs_part, pairs_parts, pairs_of, among_rows}
@@ -128,3 +128,16 @@ returns-clause-taken c =
     let below = negatives c.args.v (map (kept_of columns sources) c.args.rows.now) in
     ap (take_rows (list_of c.args.rest.now)) (sym (pairs_parts columns sources c.args.v below c.args.rows.now))
     ∙ done (list_of c.args.rest.now) (pairs_part columns sources c.args.v below) c.args.rows.now c.loop-row.row-index (list_of c.loop-row.rest) c.loop-row-test.false c.loop-row.invariant.taken
+
+pub take_pairs_of-requires-clause-short_rows : goal.take_pairs_of-requires-clause-short_rows
+take_pairs_of-requires-clause-short_rows c = λ t.
+    let columns = c.args.rest.now.columns in
+    let refs = c.in-Ok.negatives.items in
+    let Are : ℕ → List (Bor KeptRow) → Type 0 = λ k ns. All (λ r. IsShort k r.now) ns in
+    let are : Are columns refs = among_rows (λ r. r.now) refs c.args.rows.now columns c.args.rest.now.sources c.args.v c.in-Ok.ensures (IsShort columns) (c.are_short-short.ensures t) in
+    subst (Are c.loop-row.rest.columns) (sym c.deref.ensures.value) (subst (λ k. Are k refs) (sym c.loop-row.invariant.shape.columns_same) are)
+
+pub take_pairs_of-requires-clause-short_row : goal.take_pairs_of-requires-clause-short_row
+take_pairs_of-requires-clause-short_row c = λ t.
+    subst (λ k. IsShort k c.row-item.result) (sym c.loop-row.invariant.shape.columns_same)
+    (subst (IsShort c.args.rest.now.columns) (sym c.row-item.is) (c.are_short-short.ensures t c.loop-row.row-index c.row-item.result c.loop-row-test.true))

@@ -6,7 +6,8 @@ use Rattle.std.proofs.lemmas.List.Concat.{flat_map_single}
 use Rattle.crn_linear.specs.Rows.{IsSmall}
 use Rattle.crn_feasible.specs.declared.rows.KeptRow.{KeptRow}
 use Rattle.crn_feasible.specs.Elimination.{Kept, entry, combined, take_row, take_rows}
-use Rattle.crn_feasible.specs.Steps.{Ends, kept_of, list_of, mixed_rows, IsKeptRow}
+use Rattle.crn_feasible.specs.Steps.{Ends, kept_of, list_of, mixed_rows, IsKeptRow, IsShort, AreShort}
+use Rattle.crn_feasible.proofs.Dropping.{short_at, short_itself, short_negated}
 use Rattle.crn_feasible.proofs.Exits.{ends_takes}
 use Rattle.crn_feasible.proofs.Turns.{step, stop, done, ends_same, entry_there, small_at, pair_taken, negated, itself}
 use Rattle.crn_feasible.proofs.rows.take_pairs_of.Goals.{After-row-item}
@@ -78,3 +79,18 @@ returns-clause-taken c =
     let one : Bor KeptRow → Kept = λ r. combined c.args.v (kept_of columns sources c.args.p.now) (kept_of columns sources r.now) in
     ap (take_rows (list_of c.args.rest.now)) (sym (flat_map_single one c.args.negatives.now))
     ∙ done (list_of c.args.rest.now) (λ r. one r ∷ []) c.args.negatives.now c.loop-row.row-index (list_of c.loop-row.rest) c.loop-row-test.false c.loop-row.invariant.taken
+
+pub take_mixed-requires-clause-short : goal.take_mixed-requires-clause-short
+take_mixed-requires-clause-short c = λ t.
+    let s = (goal.at.take_mixed-requires-clause-short c).After-row-item in
+    let columns = c.args.rest.now.columns in
+    let sources = c.args.rest.now.sources in
+    let other = c.row-item.result.now in
+    let one : IsShort columns c.args.p.now = c.requires.short_row t in
+    let two : IsShort columns other = subst (λ r. IsShort columns r.now) (sym c.row-item.is) (c.requires.short_rows t c.loop-row.row-index c.row-item.result c.loop-row-test.true) in
+    subst (λ k. AreShort k (below s) c.args.p.now (lead s) other) (sym c.loop-row.invariant.shape.columns_same) (record {
+      first_times = short_negated (get_or other.entries c.args.v (pos 0)) (short_at columns sources c.args.v other (row_kept s) two c.requires.column c.requires.list.few);
+      first = one;
+      second_times = short_itself (get_or c.args.p.now.entries c.args.v (pos 0)) (short_at columns sources c.args.v c.args.p.now c.requires.row one c.requires.column c.requires.list.few);
+      second = two;
+    })
