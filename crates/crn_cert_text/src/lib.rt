@@ -149,17 +149,23 @@ fn verify_pieces(
         Err(error) => return Err(unclear(error)),
     };
     let pairs = pairs(alloc, pieces.len())?;
-    // All differences have to clear before a line is looked at. Their rows are made again pair by pair.
-    match clear_differences(alloc, pieces, domain.inside().len(), pairs.as_slice()) {
-        Ok(_) => {}
+    // All differences have to clear before a line is looked at.
+    let differences = match clear_differences(
+        alloc,
+        pieces,
+        domain.inside().len(),
+        pairs.as_slice(),
+    ) {
+        Ok(differences) => differences,
         Err(error) => return Err(unclear(error)),
-    }
+    };
     verify_pairs(
         alloc,
         domain,
         pieces,
         conditions.as_slice(),
         pairs.as_slice(),
+        differences.as_slice(),
         lines,
     )?;
     let taken = 2 * pairs.len();

@@ -1,6 +1,7 @@
 //! The cover tree of a proof, line by line.
 
-ghost use Rattle.std.specs.Prelude.{◌≡◌, ◌<◌, ◌≤◌, ◌+◌, ◌++◌, [], length, slice_index_or, sum_by, All, IfOk, OnOk, IsTrue};
+ghost use Rattle.std.specs.Prelude.{◌≡◌, ◌<◌, ◌≤◌, ◌+◌, ◌++◌, List, [], length, slice_index_or, sum_by, All, OnOk};
+ghost use Rattle.crn_linear.specs.Rows as linear;
 ghost use Rattle.crn_formula.specs.Pieces.{columns_of};
 ghost use Rattle.crn_pieces.specs.Systems.{chosen_rows, cover_rows};
 ghost use Rattle.crn_pieces.specs.Choices.{AreChoices};
@@ -34,31 +35,35 @@ fn push_choice(rows: &mut Vec<Row>, own: &[Row], k: usize) -> Result<(), AllocEr
     Ok(())
 }
 
-// The rows of the cover system of some choices, without the domain's.
-fn rows_of_choices(
-    alloc: Global,
-    conditions: &[Vec<Row>],
-    choices: &[usize],
-) -> Result<Vec<Row>, AllocError>
-    requires { AreChoices (lists_of conditions.now) choices.now }
-    ensures { IfOk result (λ rows. rows.items ≡ cover_rows (lists_of conditions.now) choices.now) }
+// Takes the rows of a choice from the end. They are one more than its number.
+fn pop_choice(rows: &mut Vec<Row>, k: usize)
+    ensures { (before : List linear.Row) (own : List linear.Row) → k < length own
+        → rows.old.items ≡ before ++ chosen_rows own k → rows.new.items ≡ before }
 {
-    let mut rows = Vec::new(alloc);
-    for i in 0..choices.len() {
-        push_choice(&mut rows, rows_at(conditions, i), choices[i])?;
-    }
-    Ok(rows)
+    let kept = rows.len().saturating_sub(k).saturating_sub(1);
+    rows.truncate(kept);
 }
 
-// To the part that comes after one and the parts within it. Without any no choice is left.
-fn go_on(conditions: &[Vec<Row>], choices: &mut Vec<usize>) -> Result<(), AllocError>
+// To the part that comes after one and the parts within it, with its rows behind those that stand before. Without any
+// no choice is left.
+fn go_on(
+    conditions: &[Vec<Row>],
+    choices: &mut Vec<usize>,
+    rows: &mut Vec<Row>,
+) -> Result<(), AllocError>
     requires { AreChoices (lists_of conditions.now) choices.old.items }
     ensures part { OnOk result (part_of choices.new.items ≡ next_part (lists_of conditions.now) choices.old.items) }
     ensures chosen { OnOk result (AreChoices (lists_of conditions.now) choices.new.items) }
+    ensures laid { (before : List linear.Row)
+        → rows.old.items ≡ before ++ cover_rows (lists_of conditions.now) choices.old.items
+        → OnOk result (rows.new.items ≡ before ++ cover_rows (lists_of conditions.now) choices.new.items) }
 {
     while let Some(k) = choices.pop() {
-        let count = rows_at(conditions, choices.len()).len();
+        pop_choice(rows, k);
+        let own = rows_at(conditions, choices.len());
+        let count = own.len();
         if k + 1 < count {
+            push_choice(rows, own, k + 1)?;
             choices.push(k + 1)?;
             return Ok(());
         }
@@ -67,17 +72,25 @@ fn go_on(conditions: &[Vec<Row>], choices: &mut Vec<usize>) -> Result<(), AllocE
 }
 
 // To the first of the parts that belong to these choices, or to what comes after them where the next piece has no
-// condition.
-fn go_in(conditions: &[Vec<Row>], choices: &mut Vec<usize>) -> Result<(), AllocError>
+// condition, with its rows behind those that stand before.
+fn go_in(
+    conditions: &[Vec<Row>],
+    choices: &mut Vec<usize>,
+    rows: &mut Vec<Row>,
+) -> Result<(), AllocError>
     requires chosen { AreChoices (lists_of conditions.now) choices.old.items }
     requires deeper { length choices.old.items < length conditions.now }
     ensures part { OnOk result (part_of choices.new.items ≡ first_part (lists_of conditions.now) choices.old.items) }
     ensures chosen { OnOk result (AreChoices (lists_of conditions.now) choices.new.items) }
+    ensures laid { (before : List linear.Row)
+        → rows.old.items ≡ before ++ cover_rows (lists_of conditions.now) choices.old.items
+        → OnOk result (rows.new.items ≡ before ++ cover_rows (lists_of conditions.now) choices.new.items) }
 {
-    let count = rows_at(conditions, choices.len()).len();
-    if count == 0 {
-        return go_on(conditions, choices);
+    let own = rows_at(conditions, choices.len());
+    if own.is_empty() {
+        return go_on(conditions, choices, rows);
     }
+    push_choice(rows, own, 0)?;
     choices.push(0)?;
     Ok(())
 }
@@ -97,8 +110,10 @@ pub fn verify_tree(
     ensures { Verifies domain.now (lists_of conditions.now) (place_of (first_part (lists_of conditions.now) []))
         before (lines_of_proof lines.now) result }
 {
+    let columns = domain.inside().len();
     let mut choices = Vec::new(alloc);
-    go_in(conditions, &mut choices)?;
+    let mut rows = Vec::from_slice(alloc, domain.rows())?;
+    go_in(conditions, &mut choices, &mut rows)?;
     for i in 0..lines.len() {
         let depth = choices.len();
         if depth == 0 {
@@ -113,13 +128,12 @@ pub fn verify_tree(
                 });
             }
             ProofLine::Close(multipliers) => {
-                let rows = rows_of_choices(alloc, conditions, choices.as_slice())?;
-                if !proves(alloc, domain, rows.as_slice(), multipliers.as_slice())? {
+                if !proves(columns, rows.as_slice(), multipliers.as_slice()) {
                     return Err(VerifyError::NotProved {
                         index: before + i + 1,
                     });
                 }
-                go_on(conditions, &mut choices)?;
+                go_on(conditions, &mut choices, &mut rows)?;
             }
             ProofLine::Split => {
                 if depth >= conditions.len() {
@@ -127,7 +141,7 @@ pub fn verify_tree(
                         index: before + i + 1,
                     });
                 }
-                go_in(conditions, &mut choices)?;
+                go_in(conditions, &mut choices, &mut rows)?;
             }
         }
     }

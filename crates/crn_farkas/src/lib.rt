@@ -1,10 +1,10 @@
 //! Systems of weak and strict rows, and certificates that no point meets a system.
 //!
-//! `check` answers whether multipliers are a certificate of a system, and `holds` whether a point meets it. A system that has a certificate has no point, which is
-//! the easy direction of Motzkin's transposition theorem (`laws::certificates`).
+//! `check` answers whether multipliers are a certificate of a system, `refutes` whether they are one of rows that stand in none, and `holds` whether a point meets a
+//! system. A system that has a certificate has no point, which is the easy direction of Motzkin's transposition theorem (`laws::certificates`).
 #![tactic(auto)]
 
-ghost use Rattle.std.specs.Prelude.{◌≡◌, ℕ, ◌<◌, ◌≤◌, ◌≤ℤ◌, ◌<ℤ◌, ◌^◌, ◌↔◌, pos, ◌*ℤ◌, unsigned_abs, [], length, slice_index_or, IsTrue, IfOk};
+ghost use Rattle.std.specs.Prelude.{◌≡◌, ℕ, ◌<◌, ◌≤◌, ◌≤ℤ◌, ◌<ℤ◌, ◌*◌, ◌^◌, ◌↔◌, pos, ◌+ℤ◌, ◌*ℤ◌, unsigned_abs, [], length, slice_index_or, IsTrue, IfOk};
 ghost use Rattle.std.specs.List.{All};
 ghost use Rattle.crn_linear.specs.Forms.{wholes};
 ghost use Rattle.crn_linear.specs.Rows.{dot, IsSmall, AreSmall, MeetsWhole};
@@ -16,6 +16,9 @@ use std::alloc::{AllocError, Global};
 use std::marker::Model;
 
 pub mod laws;
+
+// The greatest size of a multiplier.
+const LIMIT: i64 = 1 << 59;
 
 /// A number of columns, and at most 256 rows of that length.
 #[derive(Debug, Drop)]
@@ -133,12 +136,23 @@ pub fn check(system: &System, certificate: &Certificate) -> bool
     ensures exact { IsTrue result ↔ IsCertificate system.now.system certificate.now }
     ensures excludes { IsTrue result → HasNoPoint system.now.system }
 {
-    let rows = system.rows();
-    let multipliers = certificate.multipliers();
+    refutes(system.columns(), system.rows(), certificate.multipliers())
+}
+
+/// Whether these multipliers are small and a certificate of the system of so many columns and these rows. Then no point meets
+/// it.
+pub fn refutes(columns: usize, rows: &[Row], multipliers: &[i64]) -> bool
+    requires columns { columns ≤ 9 }
+    requires lengths { All (λ r. length r.entries ≡ columns) rows.now }
+    requires few { length rows.now ≤ 256 }
+    ensures exact { IsTrue result
+        ↔ (AreSmall multipliers.now × IsCertificate (record { columns = columns; rows = rows.now }) multipliers.now) }
+    ensures excludes { IsTrue result → HasNoPoint (record { columns = columns; rows = rows.now }) }
+{
     multipliers.len() == rows.len()
-        && are_nonnegative(multipliers)
+        && are_in_range(multipliers)
         && has_strict(rows, multipliers)
-        && sums_are_zero(rows, multipliers, system.columns())
+        && sums_are_zero(columns, rows, multipliers)
 }
 
 /// Whether the point meets each row.
@@ -167,10 +181,16 @@ pub fn meets(row: &Row, point: &Point) -> bool
     }
 }
 
-fn are_nonnegative(multipliers: &[i64]) -> bool
-    ensures { IsTrue result ↔ All (λ m. pos 0 ≤ℤ m) multipliers.now }
+// Whether each multiplier is from 0 to 2^59.
+fn are_in_range(multipliers: &[i64]) -> bool
+    ensures { IsTrue result ↔ (All (λ m. pos 0 ≤ℤ m) multipliers.now × AreSmall multipliers.now) }
 {
-    multipliers.iter().all(|multiplier| *multiplier >= 0)
+    for multiplier in multipliers {
+        if *multiplier < 0 || *multiplier > LIMIT {
+            return false;
+        }
+    }
+    true
 }
 
 // Whether some strict row has a positive multiplier.
@@ -188,49 +208,51 @@ fn has_strict(rows: &[Row], multipliers: &[i64]) -> bool
 }
 
 // Whether the multiples of the rows add up to 0 in each column.
-fn sums_are_zero(rows: &[Row], multipliers: &[i64], columns: usize) -> bool
+fn sums_are_zero(columns: usize, rows: &[Row], multipliers: &[i64]) -> bool
+    requires columns { columns ≤ 9 }
     requires one_each { length multipliers.now ≡ length rows.now }
     requires few { length rows.now ≤ 256 }
     requires small { AreSmall multipliers.now }
     requires lengths { All (λ r. length r.entries ≡ columns) rows.now }
     ensures { IsTrue result ↔ ((v : ℕ) → v < columns → dot multipliers.now (column v rows.now) ≡ pos 0) }
 {
-    for v in 0..columns {
-        if column_sum(rows, multipliers, v) != 0 {
-            return false;
-        }
-    }
-    true
+    let sums = sums_of(columns, rows, multipliers);
+    sums[..columns].iter().all(|sum| *sum == 0)
 }
 
-// The sum of the multiples in a column. Each of the at most 256 products of two numbers of size at most 2^59 is at most 2^118
-// in size, so that each partial sum is at most 2^126 and fits 128 bits.
-fn column_sum(rows: &[Row], multipliers: &[i64], v: usize) -> i128
+// The sum of the multiples in each column. Each of the at most 256 products of two numbers of size at most 2^59 is at most
+// 2^118 in size, so that each partial sum is at most 2^126 and fits 128 bits.
+fn sums_of(columns: usize, rows: &[Row], multipliers: &[i64]) -> [i128; 9]
+    requires columns { columns ≤ 9 }
     requires one_each { length multipliers.now ≡ length rows.now }
     requires few { length rows.now ≤ 256 }
     requires small { AreSmall multipliers.now }
-    requires column { All (λ r. v < length r.entries) rows.now }
-    ensures { result ≡ dot multipliers.now (column v rows.now) }
+    requires lengths { All (λ r. length r.entries ≡ columns) rows.now }
+    ensures { (v : ℕ) → v < columns → slice_index_or result v (pos 0) ≡ dot multipliers.now (column v rows.now) }
 {
-    let mut sum = 0i128;
+    let mut sums = [0i128; 9];
     for i in 0..rows.len() {
-        let row = &rows[i];
-        sum += term(multipliers[i], row, v);
+        add_multiple(&mut sums, multipliers[i], &rows[i]);
     }
-    sum
+    sums
 }
 
-// A multiple of a row in a column. Most multipliers of a certificate are 0.
-fn term(multiplier: i64, row: &Row, v: usize) -> i128
+// Adds a multiple of a row to the sums of its columns. Most multipliers of a certificate are 0.
+fn add_multiple(sums: &mut [i128; 9], multiplier: i64, row: &Row)
     requires small { IsSmall multiplier }
-    requires column { v < length row.now.entries }
-    ensures value { result ≡ multiplier *ℤ slice_index_or row.now.entries v (pos 0) }
-    ensures small { unsigned_abs result ≤ 2 ^ 118 }
+    requires sums { (v : ℕ) → v < length row.now.entries → unsigned_abs (slice_index_or sums.old v (pos 0)) ≤ 255 * 2 ^ 118 }
+    ensures value { (v : ℕ) → v < length row.now.entries → slice_index_or sums.new v (pos 0)
+        ≡ slice_index_or sums.old v (pos 0) +ℤ multiplier *ℤ slice_index_or row.now.entries v (pos 0) }
+    ensures small { (v : ℕ) → v < length row.now.entries
+        → unsigned_abs (multiplier *ℤ slice_index_or row.now.entries v (pos 0)) ≤ 2 ^ 118 }
 {
+    let columns = row.len();
     if multiplier == 0 {
-        return 0;
+        return;
     }
-    product(multiplier, row.entry(v))
+    for v in 0..columns {
+        sums[v] += product(multiplier, row.entry(v));
+    }
 }
 
 fn product(a: i64, b: i64) -> i128

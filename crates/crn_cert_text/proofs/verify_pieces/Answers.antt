@@ -17,13 +17,13 @@ use Rattle.crn_cert_text.specs.Answers.{ArePairsDone, Verifies, IsRejected}
 use Rattle.crn_cert_text.proofs.Whole.{few_pairs, verified}
 use Rattle.crn_cert_text.proofs.OneVerdict.{accepted_covers, accepted_agree}
 use Rattle.crn_cert_text.proofs.verify_pieces.Goals as goal
-use Rattle.crn_cert_text.proofs.verify_pieces.Goals.{After-as_slice-3, After-as_slice-4}
+use Rattle.crn_cert_text.proofs.verify_pieces.Goals.{After-as_slice-3, After-as_slice-5}
 
 pairs_are : (c : After-as_slice-3) → c.as_slice-3.result.now ≡ pairs_of (length c.args.pieces.now)
 pairs_are c = c.as_slice-3.ensures.value ∙ c.in_ok-pairs.ensures
 
-rows_are : (c : After-as_slice-4) → lists_of c.as_slice-4.result.now ≡ rows_of (pieces_of c.args.pieces.now)
-rows_are c = ap lists_of c.as_slice-4.ensures.value ∙ c.in-Ok.ensures.0
+rows_are : (c : After-as_slice-5) → lists_of c.as_slice-5.result.now ≡ rows_of (pieces_of c.args.pieces.now)
+rows_are c = ap lists_of c.as_slice-5.ensures.value ∙ c.in-Ok.ensures.0
 
 pub verify_pairs-requires-clause-few_pairs : goal.verify_pairs-requires-clause-few_pairs
 verify_pairs-requires-clause-few_pairs c =
@@ -34,13 +34,13 @@ verify_pairs-requires-clause-few_pairs c =
 
 pub verify_tree-requires-clause-lengths : goal.verify_tree-requires-clause-lengths
 verify_tree-requires-clause-lengths c =
-    subst (All (AreLong (columns_of c.args.domain.now))) (sym (rows_are (goal.at.verify_tree-requires-clause-lengths c).After-as_slice-4))
+    subst (All (AreLong (columns_of c.args.domain.now))) (sym (rows_are (goal.at.verify_tree-requires-clause-lengths c).After-as_slice-5))
     (long_rows (columns_of c.args.domain.now) (pieces_of c.args.pieces.now) c.requires.lengths)
 
 pub returns-clause-verdict : goal.returns-clause-verdict
 returns-clause-verdict c =
     let s = (goal.at.returns-clause-verdict c).After-as_slice-3 in
-    let t = (goal.at.returns-clause-verdict c).After-as_slice-4 in
+    let t = (goal.at.returns-clause-verdict c).After-as_slice-5 in
     let D = c.args.domain.now in
     let P = pieces_of c.args.pieces.now in
     let lines = c.args.lines.now in
@@ -50,7 +50,7 @@ returns-clause-verdict c =
     let count : 2 * length c.as_slice-3.result.now ≡ m = omega (arith, c.len-taken.ensures, ap (length {A = ℕ × ℕ}) c.as_slice-3.ensures.value) in
     let done : ArePairsDone D P lines m = subst (ArePairsDone D P lines) count c.in_ok-verify_pairs.ensures in
     let some : 0 < length P = omega (arith, c.requires.few.some) in
-    let C = lists_of c.as_slice-4.result.now in
+    let C = lists_of c.as_slice-5.result.now in
     let rest = subst (λ (ls : List ProofLine). Verifies D C (place_of (first_part C [])) m (lines_of_proof ls) c.verify_tree.result) (take_rest lines m) c.verify_tree.ensures in
     verified D P lines some c.in-Ok.ensures.1 apart m done c.verify_tree.result
     (subst (λ (C : List (List Row)). Verifies D C (place_of (first_part C [])) m (lines_of_proof (drop m lines)) c.verify_tree.result) (rows_are t) rest)

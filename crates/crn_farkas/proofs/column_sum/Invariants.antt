@@ -1,8 +1,0 @@
-use Rattle.std.proofs.Common.{◌≡◌, ◌≤◌, ◌*◌, ◌^◌, take}
-use Rattle.std.specs.Prelude.{unsigned_abs}
-use Rattle.crn_linear.specs.Rows.{dot}
-use Rattle.crn_farkas.specs.Systems.{column}
-use Rattle.crn_farkas.proofs.column_sum.Given as goal
-
-abbrev pub invariant-loop-i : goal.invariant-loop-i
-invariant-loop-i l = record { value : l.sum ≡ dot (take l.i l.multipliers) (take l.i (column l.v l.rows)); small : unsigned_abs l.sum ≤ l.i * 2 ^ 118 }
