@@ -11,7 +11,7 @@ use Rattle.crn_linear.specs.Views.{HasColumns, padded}
 use Rattle.crn_linear.specs.Cleared.{common, over}
 use Rattle.crn_linear.proofs.Commons.{from_one}
 use Rattle.crn_linear.proofs.Padding.{seen, IsPadded-padded}
-use Rattle.crn_feasible.specs.Elimination.{Kept, reduced, unit}
+use Rattle.crn_feasible.specs.Elimination.{reduced, unit}
 use Rattle.crn_feasible.specs.Sparse.{spread, Ascend, AreSmallAt}
 use Rattle.crn_feasible.specs.Steps.{kept, first_row, IsMade}
 use Rattle.crn_feasible.proofs.Sparse.{spread-one}

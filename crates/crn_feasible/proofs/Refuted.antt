@@ -1,7 +1,6 @@
 -- Elimination refutes a short system of two columns that has no point: it meets no limit.
-use Rattle.std.proofs.Common.{◌≡◌, ℕ, ◌≤◌, ◌^◌, ◌*◌, List, length, Result, Ok, Err, refl, arith}
-use Rattle.std.specs.Prelude.{ℤ, unsigned_abs}
-use Rattle.std.specs.List.{All}
+use Rattle.std.proofs.Common.{◌≡◌, ◌≤◌, ◌^◌, ◌*◌, List, length, Result, Ok, Err, refl, arith}
+use Rattle.std.specs.Prelude.{ℤ}
 use Rattle.crn_farkas.specs.Systems.{System, IsRectangular, IsWholePoint, HasNoPoint}
 use Rattle.crn_farkas.proofs.Motzkin.{no_point}
 use Rattle.crn_feasible.specs.Elimination.{Stop, refuted, passes, too_many, elimination, AreWithin}

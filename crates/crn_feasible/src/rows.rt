@@ -121,7 +121,9 @@ fn have_short_entries(entries: &[i64]) -> bool
 fn have_short_multipliers(multipliers: &[(usize, i64)]) -> bool
     ensures { IsTrue result → All (λ m. unsigned_abs m.1 ≤ 2 ^ 29) multipliers.now }
 {
-    multipliers.iter().all(|multiplier| multiplier.1.unsigned_abs() <= SHORT)
+    multipliers
+        .iter()
+        .all(|multiplier| multiplier.1.unsigned_abs() <= SHORT)
 }
 
 // A times the first numbers plus b times the second, all short, and 0 past the last.

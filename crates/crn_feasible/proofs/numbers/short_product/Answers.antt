@@ -1,5 +1,5 @@
 use Rattle.std.proofs.Common.{arith, sym, ap, ap₂, ◌∙◌, ◌≡◌, ◌≤◌, ◌*◌, ◌^◌, subst, to_z, of_z}
-use Rattle.std.specs.Prelude.{ℤ, ◌*ℤ◌, unsigned_abs}
+use Rattle.std.specs.Prelude.{◌*ℤ◌, unsigned_abs}
 use Rattle.std.specs.Int.{w64}
 use Rattle.std.proofs.lemmas.Int.{to_z-of_z, fits_signed_mul, unsigned_abs-mul}
 use Rattle.std.proofs.lemmas.Nat.{mul-le}

@@ -1,4 +1,4 @@
-use Rattle.std.proofs.Common.{refl, sym, ap, ap₂, ◌∙◌, ◌≡◌, ◌+◌, ◌-◌, ◌<◌, length, get_or, List, [], ◌∷◌, subst, arith}
+use Rattle.std.proofs.Common.{refl, sym, ap, ◌∙◌, ◌≡◌, ◌+◌, ◌-◌, ◌<◌, length, get_or, List, [], ◌∷◌, subst, arith}
 use Rattle.std.proofs.lemmas.Result.{err_from_is_err_and}
 use Rattle.crn_linear.specs.Rows.{Row}
 use Rattle.crn_feasible.specs.Elimination.{Kept, started, take_row, take_rows, unit}

@@ -1,8 +1,7 @@
-use Rattle.std.proofs.Common.{arith, rules, true, false, cond, Bool, List, refl, sym, ap, ◌∙◌, ◌≡◌, SFits}
-use Rattle.std.specs.Prelude.{ℤ, pos, ◌<ℤ◌}
+use Rattle.std.proofs.Common.{arith, rules, true, false, cond, sym, ap, ◌∙◌, ◌≡◌, SFits}
+use Rattle.std.specs.Prelude.{pos, ◌<ℤ◌}
 use Rattle.std.specs.Int.{w128}
 use Rattle.std.proofs.lemmas.Int.{ints, to_z-of_z}
-use Rattle.crn_linear.specs.Rows.{IsBelow_ℤ, MeetsWhole}
 use Rattle.crn_feasible.specs.Signs.{first, second}
 use Rattle.crn_feasible.proofs.Signs.{met_pair, met_with}
 use Rattle.crn_feasible.proofs.two_columns.with_pair.Goals.{After-without_second-factor}

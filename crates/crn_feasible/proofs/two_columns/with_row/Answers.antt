@@ -1,5 +1,5 @@
-use Rattle.std.proofs.Common.{arith, List, length, sym, subst, ◌∙◌, ◌≡◌}
-use Rattle.std.specs.Prelude.{ℤ, pos}
+use Rattle.std.proofs.Common.{arith, length, sym, subst, ◌≡◌}
+use Rattle.std.specs.Prelude.{pos}
 use Rattle.std.proofs.lemmas.Int.{ints}
 use Rattle.crn_linear.specs.Rows.{Row, MeetsWhole}
 use Rattle.crn_feasible.specs.Signs.{first, second}

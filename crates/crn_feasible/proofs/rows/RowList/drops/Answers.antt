@@ -1,5 +1,5 @@
 use Rattle.std.proofs.Common.{arith, rules, ℕ, true, false, not, cond, [], Bool, List, length, take, sym, ap, ap₂, ◌∙◌, ◌≡◌, ◌≤◌, subst, to_z, of_z}
-use Rattle.std.specs.Prelude.{ℤ, pos}
+use Rattle.std.specs.Prelude.{pos}
 use Rattle.std.specs.Int.{w64}
 use Rattle.std.specs.List.{All, list_any}
 use Rattle.std.proofs.lemmas.Int.{to_z-of_z}
