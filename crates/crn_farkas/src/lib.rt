@@ -1,7 +1,8 @@
 //! Systems of weak and strict rows, and certificates that no point meets a system.
 //!
-//! `check` answers whether multipliers are a certificate of a system, `refutes` whether they are one of rows that stand in none, and `holds` whether a point meets a
-//! system. A system that has a certificate has no point, which is the easy direction of Motzkin's transposition theorem (`laws::certificates`).
+//! `check` answers whether multipliers are a certificate of a system, `refutes` whether they are one of rows that stand in none, and `holds`
+//! whether a point meets a system. A system that has a certificate has no point, which is the easy direction of Motzkin's transposition
+//! theorem (`laws::certificates`).
 #![tactic(auto)]
 
 ghost use Rattle.std.specs.Prelude.{◌≡◌, ℕ, ◌<◌, ◌≤◌, ◌≤ℤ◌, ◌<ℤ◌, ◌*◌, ◌^◌, ◌↔◌, pos, ◌+ℤ◌, ◌*ℤ◌, unsigned_abs, [], length, slice_index_or, IsTrue, IfOk};
