@@ -1,4 +1,4 @@
-use Rattle.std.proofs.Common.{Err, [], ◌∷◌, ◌++◌, sym, ap, ap₂, ◌∙◌}
+use Rattle.std.proofs.Common.{Ok, Err, [], ◌∷◌, ◌++◌, sym, ap, ap₂, ◌∙◌}
 use Rattle.std.proofs.lemmas.Result.{err_from_is_err_and}
 use Rattle.crn_formula.specs.Formulas as plain
 use Rattle.crn_formula.specs.Views.{plain_of}
@@ -119,7 +119,7 @@ returns-in_ok-second-in-Max t c =
 pub returns-then-is_zero : goal.returns-then-is_zero
 returns-then-is_zero t c =
     let q = c.in-Scale.factor in
-    at_formula _ _ _ _ _ (sym (ap plain_of c.in-Scale.is ∙ ap (plain.Scale q) (ap plain_of (sym c.deref.ensures))))
+    at_formula _ _ _ _ (Ok c.in_ok-sets-in-Scale.sets) (sym (ap plain_of c.in-Scale.is ∙ ap (plain.Scale q) (ap plain_of (sym c.deref.ensures))))
     (scale_zero q (plain_of c.deref.result.now) c.zero_form.result _ _ c.in_ok-sets-in-Scale.sets (sym (is_zero_same c.is_zero.result q c.is_zero.ensures) ∙ c.if-is_zero.true)
     c.zero_form.ensures c.in_ok-sets-in-Scale.ensures)
 
